@@ -1,0 +1,37 @@
+-- How a syllable of 12 bits is read.
+-- Assumes nothing.
+use mathlib.Core.Bool.{true, false}
+use mathlib.Core.List.{List, [], _∷_}
+use Prim.Native.Nat.{ℕ, zero, suc, _/_, _%_}
+use lib.Dec.{eqb}
+use Rattle.syllable.specs.declared.Operator.{Operator}
+use Rattle.syllable.specs.declared.Operator.the-variants.{NotBuilt}
+use Rattle.syllable.specs.declared.Syllable.{Syllable}
+use Rattle.syllable.specs.declared.Syllable.the-variants.{Litc, Opdc, Desc, Operator as Operates}
+use Rattle.syllable.specs.Codes.{codeOf, listed}
+
+pub data Kind : Type 0 where
+  literal operator operandCall descriptorCall : Kind
+
+-- "A syllable is read as a literal, an operand call, a descriptor call or an operator, by its last two bits 00, 10, 11, 01":
+-- of the number that those two bits make
+abbrev pub kindOf : ℕ → Kind
+kindOf zero = literal
+kindOf (suc zero) = operator
+kindOf (suc (suc zero)) = operandCall
+kindOf (suc (suc (suc n))) = descriptorCall
+
+-- the operator of a list whose code is y; "Others" are not built
+abbrev pub operatorIn : List Operator → ℕ → Operator
+operatorIn [] y = NotBuilt (y / 4)
+operatorIn (o ∷ os) y = elim (eqb (codeOf o) y) [ true ↦ o | false ↦ operatorIn os y ]
+
+-- "the first ten bits are its number k"
+abbrev pub decodeAs : Kind → ℕ → Syllable
+decodeAs literal y = Litc (y / 4)
+decodeAs operandCall y = Opdc (y / 4)
+decodeAs descriptorCall y = Desc (y / 4)
+decodeAs operator y = Operates (operatorIn listed y)
+
+unfoldable pub decodeOf : ℕ → Syllable
+decodeOf y = decodeAs (kindOf (y % 4)) y

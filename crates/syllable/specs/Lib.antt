@@ -1,0 +1,5 @@
+pub mod Codes
+pub mod Decoding
+pub mod Encoding
+pub mod Numbers
+pub mod Places

@@ -1,0 +1,6 @@
+pub mod Changes
+pub mod Signed
+pub mod Operands
+pub mod Places
+pub mod Makings
+pub mod Sole
