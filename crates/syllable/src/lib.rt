@@ -224,10 +224,10 @@ pub fn syllable_at(w: u64, l: u8) -> u16
     ensures { λ r. ⌜ r ≡ syllableOf w l ⌝ }
 {
     match l {
-        0 => (w / 68719476736 % 4096) as u16,
-        1 => (w / 16777216 % 4096) as u16,
-        2 => (w / 4096 % 4096) as u16,
-        _ => (w % 4096) as u16,
+        0 => word::bits(w, 0, 11) as u16,
+        1 => word::bits(w, 12, 23) as u16,
+        2 => word::bits(w, 24, 35) as u16,
+        _ => word::bits(w, 36, 47) as u16,
     }
 }
 

@@ -3,11 +3,12 @@ use Prim.Native.Nat.{ℕ, zero, suc, _+_, _-_, _*_, _/_, _%_, _^_, _≤_, _<_}
 use mathlib.Core.Path.{_≡_, refl, sym, _∙_, ap, subst}
 use native.Mathlib.Nat.{mod-lt, mod-le, mod-mod, one-mul, div-add-mod', div-mul-le-self, div-div-eq-div-mul, mul-comm, mul-assoc, mul-le-mul-right, le-trans, lt-of-le-of-lt, mod-eq-of-lt}
 use native.Mathlib.Omega.{arith}
+use borrow.Author.Tests.{le-leb, lt-leb}
 use lib.Pow.{pow-pos, pow-add, shl-exact, shr-lt}
 use lib.Arith.{digits-div, digits-mod, digits-lt}
 use mir.Syntax.{w64}
 use mir.Val.{Fits}
-use Rattle.word.specs.Field.{worth, span, field, placed, withField}
+use Rattle.word.specs.Field.{worth, span, field, bitsOf, placed, withField}
 
 -- The machine's 1 << n.
 pub power : (n : ℕ) → n < 64 → 1 * 2 ^ n % 2 ^ 64 ≡ 2 ^ n
@@ -18,6 +19,16 @@ power-pos n h = rw power (pow-pos n)
 
 pub low-of : (x n : ℕ) → n < 64 → x % (1 * 2 ^ n % 2 ^ 64) ≡ x % 2 ^ n
 low-of x n h = rw power
+
+-- Bits that are there, and bits that are not.
+pub bits-yes : (w first last : ℕ) → first ≤ last → last ≤ 47 → field w first last ≡ bitsOf w first last
+bits-yes w first last h l = rw (le-leb first last h, le-leb last 47 l)
+
+pub bits-past : (w first last : ℕ) → first ≤ last → 47 < last → 0 ≡ bitsOf w first last
+bits-past w first last h l = rw (le-leb first last h, lt-leb last 47 l)
+
+pub bits-none : (w first last : ℕ) → last < first → 0 ≡ bitsOf w first last
+bits-none w first last h = rw (lt-leb first last h)
 
 -- What the machine's shifts give for a placed field.
 pub placed-is : (x first last : ℕ) → first ≤ last → last ≤ 47

@@ -4,3 +4,4 @@ pub mod Operands
 pub mod Places
 pub mod Makings
 pub mod Sole
+pub mod Wholes

@@ -7,7 +7,7 @@ use borrow.Author.Tests.{eq-eqb, ne-eqb}
 use Rattle.word.specs.Field.{field, bit, oneOf}
 use Rattle.word.specs.Layout.{flagOf, presenceOf, sizeOf, addressOf, dataOf, modeOf, argumentOf, fFieldOf, programOf, mscwROf, mscwMsffOf, mscwSalfOf, mscwOf, rcwCallOf, rcwLOf, rcwCOf, rcwOf}
 
-one-lt : (b : Bool) → oneOf b < 2
+pub one-lt : (b : Bool) → oneOf b < 2
 one-lt true = omega arith
 one-lt false = omega arith
 

@@ -11,13 +11,14 @@ use lib.Signed.{ltZ, nonNeg}
 use mir.Syntax.{w64}
 use mir.Val.{SFits, Fits, ofZ, toZ}
 use mir.ValLaws.{toZ-pos, toZ-ofZ}
-use Rattle.word.specs.Field.{placed, oneOf}
+use Rattle.word.specs.Field.{field, placed, oneOf}
 use Rattle.word.specs.Layout.{signOf, exponentOf, magnitudeOf}
 use Rattle.word.specs.Numbers.{signed, valueOf, wholeOf, wholeBy, operandOf, madeBy, negative}
 use Rattle.word.specs.declared.number.Whole.{Whole}
 use Rattle.word.specs.declared.number.Whole.the-variants.{Number, NotWhole}
 use Rattle.word.specs.declared.number.Made.{Made}
 use Rattle.word.specs.declared.number.Made.the-variants.{Word, PastWhole}
+use Rattle.word.proofs.Makings.{bit-is}
 use Rattle.word.proofs.Signed.{back, minus-fits, minus-back, abs-neg, true-false, test-back, test-back-right, casts, below-zero, not-below-zero}
 
 -- ---- an operand's number
@@ -123,3 +124,28 @@ module _ (z : ℤ) (h : SFits w64 z) where
 
     pub plus-made : {p q : ℕ} → ltZ (toZ w64 (ofZ w64 z)) (pos 0) ≡ false → p ≡ placed 1 1 0 → q ≡ placed 9 47 (natAbs (toZ w64 (ofZ w64 z))) → Word (p + q) ≡ operandOf z
     plus-made {p} {q} t e f = plus z p q small (test-back z (pos 0) false h t) e (f ∙ ap (λ (x : ℤ). placed 9 47 (natAbs x)) (plus-is t))
+
+-- ---- there and back: a number that fits is the number of its operand
+
+tops : (n w : ℕ) → n < 2 ^ 39 → w ≡ n → (exponentOf w ≡ 0) × (field w 1 1 ≡ 0) × (magnitudeOf w ≡ n)
+tops n w h e = (omega arith, omega arith, omega arith)
+
+signed-tops : (n w : ℕ) → n < 2 ^ 39 → w ≡ 2 ^ 46 + n → (exponentOf w ≡ 0) × (field w 1 1 ≡ 1) × (magnitudeOf w ≡ n)
+signed-tops n w h e = (omega arith, omega arith, omega arith)
+
+back-by : (z : ℤ) (w : ℕ) → natAbs z < 2 ^ 39 → w ≡ placed 1 1 (oneOf (negative z)) + placed 9 47 (natAbs z) → wholeOf w ≡ Number z
+unfolding wholeOf valueOf
+back-by (pos n) w h e =
+    let v : w ≡ n = omega arith in
+    rw (eq-eqb (exponentOf w) 0 (tops n w h v .0), bit-is false w 1 (tops n w h v .1), tops n w h v .2)
+back-by (negsuc n) w h e =
+    let v : w ≡ 2 ^ 46 + suc n = omega arith in
+    rw (eq-eqb (exponentOf w) 0 (signed-tops (suc n) w h v .0), bit-is true w 1 (signed-tops (suc n) w h v .1), signed-tops (suc n) w h v .2)
+
+pub operand-back : (z : ℤ) (w : ℕ) → operandOf z ≡ Word w → wholeOf w ≡ Number z
+unfolding operandOf
+operand-back z w e = go (ltb (natAbs z) (2 ^ 39)) refl e
+  where
+    go : (b : Bool) → ltb (natAbs z) (2 ^ 39) ≡ b → madeBy b (placed 1 1 (oneOf (negative z)) + placed 9 47 (natAbs z)) ≡ Word w → wholeOf w ≡ Number z
+    go true t f = back-by z w (ltb-true (natAbs z) (2 ^ 39) t) (let q : placed 1 1 (oneOf (negative z)) + placed 9 47 (natAbs z) ≡ w = cc in sym q)
+    go false t f = absurd (let q : _≡_ {A = ℕ} 0 1 = cc in omega arith)

@@ -1,7 +1,7 @@
 -- A word's bits by the paper's numbers, and what stands in a run of them.
 use Prim.Native.Nat.{ℕ, _+_, _-_, _*_, _/_, _%_, _^_}
-use mathlib.Core.Bool.{Bool, true, false}
-use lib.Dec.{eqb}
+use mathlib.Core.Bool.{Bool, true, false, _&&_}
+use lib.Dec.{eqb, leb}
 
 -- "A word has 48 bits; bit 0 is the highest, bit 47 is worth 1." What bit n is worth.
 abbrev pub worth : ℕ → ℕ
@@ -14,6 +14,14 @@ span first last = 2 ^ (last + 1 - first)
 -- The number that stands in bits first to last of a word.
 abbrev pub field : ℕ → ℕ → ℕ → ℕ
 field w first last = w / worth last % span first last
+
+-- The same for any first and last: 0 where they name no bits of a word.
+abbrev pub orZero : Bool → ℕ → ℕ
+orZero true x = x
+orZero false x = 0
+
+abbrev pub bitsOf : ℕ → ℕ → ℕ → ℕ
+bitsOf w first last = orZero (leb first last && leb last 47) (field w first last)
 
 -- A number written as bits first to last of a word that is 0 elsewhere.
 abbrev pub placed : ℕ → ℕ → ℕ → ℕ

@@ -4,3 +4,4 @@ pub mod Kinds
 pub mod Numbers
 pub mod Addresses
 pub mod Digits
+pub mod Core

@@ -1,0 +1,15 @@
+-- The checks 1 and 2 of a core.
+use Prim.Native.Nat.{ℕ, _^_}
+use mathlib.Core.Bool.{Bool, true, _&&_}
+use mathlib.Core.List.{List, [], _∷_}
+use lib.Dec.{ltb, leb}
+use lib.ListN.{length}
+
+-- "1: core length 0 or over 32,768"
+unfoldable pub lengthFits : List ℕ → Bool
+lengthFits core = ltb 0 (length core) && leb (length core) 32768
+
+-- "2: a core word at or above 2^48"
+unfoldable pub wordsFit : List ℕ → Bool
+wordsFit [] = true
+wordsFit (w ∷ ws) = ltb w (2 ^ 48) && wordsFit ws
