@@ -1,0 +1,12 @@
+pub mod TrialSums
+pub mod Fit
+pub mod FitSetters
+pub mod FitStack
+pub mod FitWords
+pub mod FitOperators
+pub mod FitCalls
+pub mod FitMarks
+pub mod FitExecute
+pub mod FitChecks
+pub mod FitSteps
+pub mod Running

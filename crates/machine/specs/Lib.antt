@@ -1,0 +1,14 @@
+pub mod Outcomes
+pub mod States
+pub mod Stack
+pub mod Memory
+pub mod Calls
+pub mod Arithmetics
+pub mod Bits
+pub mod Stores
+pub mod Branches
+pub mod Marks
+pub mod Steps
+pub mod Runs
+pub mod Shapes
+pub mod Pushes

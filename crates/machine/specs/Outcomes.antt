@@ -1,0 +1,31 @@
+-- A part of a syllable goes on with a result or halts for a cause.
+use Prim.Native.Nat.{ℕ}
+use mathlib.Core.Bool.{Bool, true, false}
+use Rattle.machine.specs.declared.outcome.Cause.{Cause}
+use Rattle.machine.specs.declared.outcome.Cause.the-variants.{Address, Overflow, Presence, Flag, Index, Unbuilt, Unwhole, ZeroDivisor}
+
+infixl 20 _>>=_
+infixr 10 if_then_else_
+pub data Res (A : Type 0) : Type 0 where
+  on : A → Res A
+  halt : Cause → Res A
+
+-- One part after another: what halts, halts the whole.
+unfoldable pub _>>=_ : {A B : Type 0} → Res A → (A → Res B) → Res B
+on a >>= f = f a
+halt n >>= f = halt n
+
+unfoldable pub if_then_else_ : {A : Type 0} → Bool → A → A → A
+if true then x else y = x
+if false then x else y = y
+
+-- "Numbers given back": the number of each cause.
+abbrev pub numberOf : Cause → ℕ
+numberOf Address = 11
+numberOf Overflow = 12
+numberOf Presence = 13
+numberOf Flag = 14
+numberOf Index = 15
+numberOf Unbuilt = 19
+numberOf Unwhole = 20
+numberOf ZeroDivisor = 21

@@ -1,0 +1,70 @@
+-- The state: core and registers; and the setters, the only definitions that write a whole record.
+use Prim.Native.Nat.{ℕ}
+use mathlib.Core.Bool.{Bool, true, false}
+use mathlib.Core.List.{List}
+use lib.ListN.{set, getD}
+use Rattle.machine.specs.declared.outcome.Registers.{Registers}
+
+-- "Registers: A, B (48 bits, each full or empty; empty holds 0), S, F, C, R, L, flags SALF, MSFF."
+pub record State : Type 0 where
+  pub core : List ℕ
+  pub regs : Registers
+
+abbrev pub setA : Registers → Bool → ℕ → Registers
+setA g full x = record { a = x; afull = full; b = g .b; bfull = g .bfull; s = g .s; f = g .f; c = g .c; r = g .r; l = g .l; salf = g .salf; msff = g .msff }
+
+abbrev pub setB : Registers → Bool → ℕ → Registers
+setB g full x = record { a = g .a; afull = g .afull; b = x; bfull = full; s = g .s; f = g .f; c = g .c; r = g .r; l = g .l; salf = g .salf; msff = g .msff }
+
+abbrev pub setS : Registers → ℕ → Registers
+setS g x = record { a = g .a; afull = g .afull; b = g .b; bfull = g .bfull; s = x; f = g .f; c = g .c; r = g .r; l = g .l; salf = g .salf; msff = g .msff }
+
+abbrev pub setF : Registers → ℕ → Registers
+setF g x = record { a = g .a; afull = g .afull; b = g .b; bfull = g .bfull; s = g .s; f = x; c = g .c; r = g .r; l = g .l; salf = g .salf; msff = g .msff }
+
+abbrev pub setPlace : Registers → ℕ → ℕ → Registers
+setPlace g c l = record { a = g .a; afull = g .afull; b = g .b; bfull = g .bfull; s = g .s; f = g .f; c = c; r = g .r; l = l; salf = g .salf; msff = g .msff }
+
+abbrev pub setR : Registers → ℕ → Registers
+setR g x = record { a = g .a; afull = g .afull; b = g .b; bfull = g .bfull; s = g .s; f = g .f; c = g .c; r = x; l = g .l; salf = g .salf; msff = g .msff }
+
+abbrev pub setFlags : Registers → Bool → Bool → Registers
+setFlags g salf msff = record { a = g .a; afull = g .afull; b = g .b; bfull = g .bfull; s = g .s; f = g .f; c = g .c; r = g .r; l = g .l; salf = salf; msff = msff }
+
+-- The same of a state.
+abbrev pub withRegs : State → Registers → State
+withRegs st g = record { core = st .core; regs = g }
+
+abbrev pub fillA : State → ℕ → State
+fillA st x = withRegs st (setA (st .regs) true x)
+
+abbrev pub emptyA : State → State
+emptyA st = withRegs st (setA (st .regs) false 0)
+
+abbrev pub fillB : State → ℕ → State
+fillB st x = withRegs st (setB (st .regs) true x)
+
+abbrev pub emptyB : State → State
+emptyB st = withRegs st (setB (st .regs) false 0)
+
+abbrev pub withS : State → ℕ → State
+withS st x = withRegs st (setS (st .regs) x)
+
+abbrev pub withF : State → ℕ → State
+withF st x = withRegs st (setF (st .regs) x)
+
+abbrev pub withPlace : State → ℕ → ℕ → State
+withPlace st c l = withRegs st (setPlace (st .regs) c l)
+
+abbrev pub withR : State → ℕ → State
+withR st x = withRegs st (setR (st .regs) x)
+
+abbrev pub withFlags : State → Bool → Bool → State
+withFlags st salf msff = withRegs st (setFlags (st .regs) salf msff)
+
+-- The word at an address of core, and the state with another word there.
+abbrev pub wordAt : State → ℕ → ℕ
+wordAt st m = getD (st .core) m 0
+
+abbrev pub store : State → ℕ → ℕ → State
+store st m w = record { core = set (st .core) m w; regs = st .regs }

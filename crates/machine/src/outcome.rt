@@ -1,0 +1,91 @@
+// The registers, and what the parts of a syllable answer.
+use syllable::Arithmetic;
+use syllable::Relation;
+
+// A and B hold 48 bits, full or empty, and empty holds 0; S, F and C 15; R 9; L 2.
+pub struct Registers {
+    pub a: u64,
+    pub afull: bool,
+    pub b: u64,
+    pub bfull: bool,
+    pub s: u16,
+    pub f: u16,
+    pub c: u16,
+    pub r: u16,
+    pub l: u8,
+    pub salf: bool,
+    pub msff: bool,
+}
+
+// A number given back, and the registers.
+pub struct Answer {
+    pub number: u64,
+    pub regs: Registers,
+}
+
+// Why a run ended, the syllables completed, and the registers.
+pub struct Ran {
+    pub stop: u64,
+    pub completed: u64,
+    pub regs: Registers,
+}
+
+// Why a syllable stops: the numbers 11 to 15 and 19 to 21.
+pub enum Cause {
+    Address,
+    Overflow,
+    Presence,
+    Flag,
+    Index,
+    Unbuilt,
+    Unwhole,
+    ZeroDivisor,
+}
+
+// A part of a syllable went on, or stops it.
+pub enum Went {
+    On(Registers),
+    Stop(Cause),
+}
+
+// A word was found, or the syllable stops.
+pub enum Part {
+    Word(u64),
+    Stop(Cause),
+}
+
+// An address was found, or the syllable stops.
+pub enum Spot {
+    At(usize),
+    Stop(Cause),
+}
+
+// A syllable went on, communicated, or stopped.
+pub enum Done {
+    Next(Registers),
+    Com(Registers),
+    Stop(Cause),
+}
+
+// The operators that work two whole numbers.
+pub enum Binary {
+    Reckon(Arithmetic),
+    Relate(Relation),
+}
+
+// The operators that join two words bit by bit.
+pub enum Join {
+    Lnd,
+    Lor,
+    Lqv,
+}
+
+// The operators that change one word.
+pub enum Change {
+    Lng,
+    Mop,
+    Mds,
+    Ssp,
+    Ssn,
+    Chs,
+}
