@@ -1,0 +1,204 @@
+-- What the machine left is written over all the bytes, since a fit state stays fit.
+use Prim.Native.Nat.{ℕ, _*_, _/_, _%_, _<_, _≤_}
+use mathlib.Core.Path.{_≡_, refl, sym, _∙_, ap}
+use mathlib.Core.Bool.{Bool, true, false, _&&_, false≢true, true≢false}
+use mathlib.Core.List.{List}
+use native.Mathlib.Omega.{arith}
+use borrow.Author.Tests.{eq-eqb, eqb-true}
+use lib.Dec.{eqb, ltb, leb}
+use lib.ListN.{length, take}
+use lib.Seq.{length-take-le}
+use Rattle.word.specs.Core.{lengthFits, wordsFit}
+use Rattle.machine.specs.declared.outcome.Registers.{Registers}
+use Rattle.machine.specs.declared.outcome.Answer.{Answer}
+use Rattle.machine.specs.declared.outcome.Ran.{Ran}
+use Rattle.machine.specs.Outcomes.{if_then_else_}
+use Rattle.machine.specs.Shapes.{stateOf, answered, ranOf}
+use Rattle.machine.specs.Steps.{registersFit, refusalOf, Stepped, endedAs, executeOf, stepOf}
+use Rattle.machine.specs.Runs.{Run, endsAt, runFrom, runOf}
+use Rattle.laws.proofs.Fit.{Fit}
+use Rattle.laws.proofs.FitChecks.{fit-refusal}
+use Rattle.laws.proofs.FitSteps.{step-fit, step-length}
+use Rattle.laws.proofs.FitRuns.{run-fit, run-length}
+use Rattle.tape.specs.Files.{wordsOf, bytesOf, writeNumberOf, writeOf, FileRead}
+use Rattle.tape.proofs.Backs.{length-fits}
+use Rattle.tape.proofs.Numbers.{write-fits}
+use Rattle.tape.proofs.Bytes.{write-yes}
+use Rattle.tape.proofs.Words.{words-length}
+use Rattle.cabinet.specs.declared.rows.Taken.the-variants.{Set, Refused}
+use Rattle.cabinet.specs.Rows.{rowOf, takenOf}
+use Rattle.cabinet.specs.Crossings.{Crossed, crossed, refuses, stepBackOf, stepTakenOf, stepBytesOf, Counted, counted, runBackOf, runTakenOf, runBytesOf, Room, leftOf, countOf}
+use Rattle.cabinet.proofs.Sets.{row-words, row-length, read-exact, taken-good}
+use Rattle.cabinet.proofs.Counts.{Whole}
+
+-- ---- a number that does not refuse
+
+refusal-refuses : (core : List ℕ) (g : Registers) → (refusalOf core g ≡ 0 → ⊥) → refuses (refusalOf core g) ≡ true
+unfolding refusalOf if_then_else_
+refusal-refuses core g n = by (lengthFits core) (wordsFit core) (registersFit g) n
+  where
+    by : (a b c : Bool) → (_≡_ {A = ℕ} (if a then (if b then (if c then 0 else 3) else 2) else 1) 0 → ⊥) → refuses (if a then (if b then (if c then 0 else 3) else 2) else 1) ≡ true
+    by true true true n = absurd (n refl)
+    by true true false n = refl
+    by true false c n = refl
+    by false b c n = refl
+
+refused-not : {A : Type 0} (core : List ℕ) (g : Registers) → eqb (refusalOf core g) 0 ≡ false → refuses (refusalOf core g) ≡ false → A
+refused-not core g e f =
+    absurd (true≢false (sym (refusal-refuses core g (λ z. true≢false (sym (eq-eqb (refusalOf core g) 0 z) ∙ e))) ∙ f))
+
+step-accepted : (core : List ℕ) (g : Registers) → refuses (stepOf core g .number) ≡ false → refusalOf core g ≡ 0
+unfolding stepOf if_then_else_
+step-accepted core g f = by (eqb (refusalOf core g) 0) refl f
+  where
+    by : (b : Bool) → eqb (refusalOf core g) 0 ≡ b
+        → refuses ((if b then endedAs (executeOf (stateOf core g)) (stateOf core g) else record { number = refusalOf core g; core = core; regs = g }) .number) ≡ false → refusalOf core g ≡ 0
+    by true e f = eqb-true (refusalOf core g) 0 e
+    by false e f = refused-not core g e f
+
+run-accepted : (core : List ℕ) (g : Registers) (budget : ℕ) → refuses (runOf core g budget .stop) ≡ false → refusalOf core g ≡ 0
+unfolding runOf if_then_else_
+run-accepted core g budget f = by (eqb (refusalOf core g) 0) refl f
+  where
+    by : (b : Bool) → eqb (refusalOf core g) 0 ≡ b
+        → refuses ((if b then (if leb budget 1000000 then runFrom budget (stateOf core g) else endsAt 5 0 (stateOf core g)) else endsAt (refusalOf core g) 0 (stateOf core g)) .stop) ≡ false → refusalOf core g ≡ 0
+    by true e f = eqb-true (refusalOf core g) 0 e
+    by false e f = refused-not core g e f
+
+-- ---- what is written
+
+fit-parts : (core : List ℕ) (g : Registers) → refusalOf core g ≡ 0 → (lengthFits core ≡ true) × (wordsFit core ≡ true)
+unfolding refusalOf if_then_else_
+fit-parts core g e = by (lengthFits core) (wordsFit core) (registersFit g) e
+  where
+    by : (a b c : Bool) → _≡_ {A = ℕ} (if a then (if b then (if c then 0 else 3) else 2) else 1) 0 → (a ≡ true) × (b ≡ true)
+    by true true c e = (refl, refl)
+    by true false c e = absurd (omega arith)
+    by false b c e = absurd (omega arith)
+
+core-written : (words core : List ℕ) (g : Registers) → refusalOf words g ≡ 0 → length core ≡ 6 * length words → writeOf words core ≡ bytesOf words
+core-written words core g e l =
+    let p : (lengthFits words ≡ true) × (wordsFit words ≡ true) = fit-parts words g e in
+    sym (write-yes words core (sym (write-fits words (length core) (p .0) (p .1) l)) refl)
+
+row-written : (words regs : List ℕ) (g : Registers) → refusalOf words g ≡ 0 → length regs ≡ 66 → writeOf (rowOf g) regs ≡ bytesOf (rowOf g)
+row-written words regs g e l =
+    let f : Fit (stateOf words g) = fit-refusal words g .0 e in
+    let n : length (rowOf g) ≡ 11 = row-length g in
+    sym (write-yes (rowOf g) regs (sym (write-fits (rowOf g) (length regs) (length-fits (rowOf g) (omega arith) (omega arith)) (row-words g (f .regs)) (omega arith))) refl)
+
+-- Either nothing, or the state of a number that does not refuse.
+left-back : (n : ℕ) (words core regs : List ℕ) (g : Registers) → (refuses n ≡ false → (refusalOf words g ≡ 0) × (length core ≡ 6 * length words)) → length regs ≡ 66
+    → leftOf n words g core regs ≡ stepBackOf (record { number = n; core = words; regs = g }) core regs
+unfolding leftOf stepBackOf if_then_else_
+left-back n words core regs g h r = by (refuses n) h
+  where
+    by : (b : Bool) → (b ≡ false → (refusalOf words g ≡ 0) × (length core ≡ 6 * length words))
+        → (if b then crossed n core regs else crossed n (writeOf words core) (writeOf (rowOf g) regs)) ≡ (if b then crossed n core regs else crossed n (bytesOf words) (bytesOf (rowOf g)))
+    by true h = refl
+    by false h = rw (core-written words core g (h refl .0) (h refl .1), row-written words regs g (h refl .0) r)
+
+pub hands-back : (n : ℕ) (words core regs : List ℕ) (g : Registers) {core′ regs′ row : List ℕ} → refuses n ≡ false → core′ ≡ writeOf words core → row ≡ rowOf g → regs′ ≡ writeOf row regs
+    → crossed n core′ regs′ ≡ leftOf n words g core regs
+unfolding leftOf if_then_else_
+hands-back n words core regs g f c r e = rw (f, c, e, r)
+
+-- ---- a step and a run, handed back
+
+step-back : (words words′ core core′ regs regs′ : List ℕ) (g : Registers) (a : Answer) → length core ≡ 6 * length words → length regs ≡ 66
+    → answered a words′ ≡ stepOf words g → crossed (a .number) core′ regs′ ≡ leftOf (a .number) words′ (a .regs) core regs
+    → crossed (a .number) core′ regs′ ≡ stepBackOf (stepOf words g) core regs
+step-back words words′ core core′ regs regs′ g a l r e h =
+    h ∙ left-back (a .number) words′ core regs (a .regs) fits r ∙ ap (λ (s : Stepped). stepBackOf s core regs) e
+  where
+    fits : refuses (a .number) ≡ false → (refusalOf words′ (a .regs) ≡ 0) × (length core ≡ 6 * length words′)
+    fits f =
+        let z : refusalOf words g ≡ 0 = step-accepted words g (ap (λ (s : Stepped). refuses (s .number)) (sym e) ∙ f) in
+        let same : length words′ ≡ length words = ap (λ (s : Stepped). length (s .core)) e ∙ step-length words g z in
+        (ap (λ (s : Stepped). refusalOf (s .core) (s .regs)) e ∙ step-fit words g z, omega arith)
+
+-- The count goes with the bytes.
+count-back : (r : Run) (core core′ regs regs′ : List ℕ) (old : ℕ) → crossed (r .stop) core′ regs′ ≡ stepBackOf (record { number = r .stop; core = r .core; regs = r .regs }) core regs
+    → counted (r .stop) core′ regs′ (countOf (r .stop) (r .completed) old) ≡ runBackOf r core regs old
+unfolding stepBackOf runBackOf countOf if_then_else_
+count-back r core core′ regs regs′ old e = by (refuses (r .stop)) e
+  where
+    by : (b : Bool) → crossed (r .stop) core′ regs′ ≡ (if b then crossed (r .stop) core regs else crossed (r .stop) (bytesOf (r .core)) (bytesOf (rowOf (r .regs))))
+        → counted (r .stop) core′ regs′ (if b then old else r .completed)
+        ≡ (if b then counted (r .stop) core regs old else counted (r .stop) (bytesOf (r .core)) (bytesOf (rowOf (r .regs))) (r .completed))
+    by true e = ap (λ (x : Crossed). counted (r .stop) (x .core) (x .regs) old) e
+    by false e = ap (λ (x : Crossed). counted (r .stop) (x .core) (x .regs) (r .completed)) e
+
+run-back : (words words′ core core′ regs regs′ : List ℕ) (g : Registers) (a : Ran) (budget old new : ℕ) → length core ≡ 6 * length words → length regs ≡ 66
+    → ranOf a words′ ≡ runOf words g budget → crossed (a .stop) core′ regs′ ≡ leftOf (a .stop) words′ (a .regs) core regs → new ≡ countOf (a .stop) (a .completed) old
+    → counted (a .stop) core′ regs′ new ≡ runBackOf (runOf words g budget) core regs old
+run-back words words′ core core′ regs regs′ g a budget old new l r e h c =
+    ap (λ (n : ℕ). counted (a .stop) core′ regs′ n) c
+    ∙ count-back (ranOf a words′) core core′ regs regs′ old (h ∙ left-back (a .stop) words′ core regs (a .regs) fits r)
+    ∙ ap (λ (s : Run). runBackOf s core regs old) e
+  where
+    fits : refuses (a .stop) ≡ false → (refusalOf words′ (a .regs) ≡ 0) × (length core ≡ 6 * length words′)
+    fits f =
+        let z : refusalOf words g ≡ 0 = run-accepted words g budget (ap (λ (s : Run). refuses (s .stop)) (sym e) ∙ f) in
+        let same : length words′ ≡ length words = ap (λ (s : Run). length (s .core)) e ∙ run-length words g budget z in
+        (ap (λ (s : Run). refusalOf (s .core) (s .regs)) e ∙ run-fit words g budget z, omega arith)
+
+-- ---- from bytes and back
+
+module _ (old core regs : List ℕ) (g : Registers) (room : Room old core regs) {words : List ℕ} {n : ℕ} (read : FileRead core old words n) where
+  read-words : words ≡ wordsOf (length old) core
+  read-words = read-exact core old (room .some) (omega (arith, room .most)) (room .exact) read
+
+  read-length : length core ≡ 6 * length words
+  read-length = room .exact ∙ ap (λ (k : ℕ). 6 * k) (sym (ap length read-words ∙ words-length (length old) core))
+
+  pub step-crossed : (words′ : List ℕ) {core′ regs′ : List ℕ} (a : Answer) → answered a words′ ≡ stepOf words g
+      → crossed (a .number) core′ regs′ ≡ leftOf (a .number) words′ (a .regs) core regs
+      → crossed (a .number) core′ regs′ ≡ stepBackOf (stepOf (wordsOf (length old) core) g) core regs
+  step-crossed words′ {core′} {regs′} a e h =
+      step-back words words′ core core′ regs regs′ g a read-length (room .row) e h ∙ ap (λ (ws : List ℕ). stepBackOf (stepOf ws g) core regs) read-words
+
+  pub run-crossed : (words′ : List ℕ) {core′ regs′ : List ℕ} (a : Ran) (budget before : ℕ) {after : ℕ} → ranOf a words′ ≡ runOf words g budget
+      → crossed (a .stop) core′ regs′ ≡ leftOf (a .stop) words′ (a .regs) core regs → after ≡ countOf (a .stop) (a .completed) before
+      → counted (a .stop) core′ regs′ after ≡ runBackOf (runOf (wordsOf (length old) core) g budget) core regs before
+  run-crossed words′ {core′} {regs′} a budget before {after} e h c =
+      run-back words words′ core core′ regs regs′ g a budget before after read-length (room .row) e h c
+      ∙ ap (λ (ws : List ℕ). runBackOf (runOf ws g budget) core regs before) read-words
+
+-- ---- room of 32,768 words, of which a taken core fills the first
+
+module _ (all core regs : List ℕ) (full : length all ≡ 32768) {g : Registers} (taken : takenOf (length core) regs ≡ Set g) where
+  pub words-most : length core / 6 ≤ length all
+  words-most =
+      let w : Whole (length core) = taken-good (length core) regs taken .core in
+      let most : length core ≤ 196608 = w .most in
+      omega arith
+
+  pub part-length : length (take (length core / 6) all) ≡ length core / 6
+  part-length = length-take-le (length core / 6) all words-most
+
+  pub part-room : Room (take (length core / 6) all) core regs
+  part-room =
+      let w : Whole (length core) = taken-good (length core) regs taken .core in
+      let l : length (take (length core / 6) all) ≡ length core / 6 = part-length in
+      let six : length core % 6 ≡ 0 = w .six in
+      let some : 0 < length core = w .some in
+      let most : length core ≤ 196608 = w .most in
+      record { some = omega arith; most = omega arith; exact = omega arith; row = taken-good (length core) regs taken .row }
+
+  pub step-came : {x : Crossed} → x ≡ stepBackOf (stepOf (wordsOf (length (take (length core / 6) all)) core) g) core regs → x ≡ stepBytesOf core regs
+  unfolding stepBytesOf stepTakenOf
+  step-came e = e ∙ rw (part-length, taken)
+
+  pub run-came : (budget before : ℕ) {x : Counted} → x ≡ runBackOf (runOf (wordsOf (length (take (length core / 6) all)) core) g budget) core regs before → x ≡ runBytesOf core regs budget before
+  unfolding runBytesOf runTakenOf
+  run-came budget before e = e ∙ rw (part-length, taken)
+
+module _ (core regs : List ℕ) {n : ℕ} (refused : takenOf (length core) regs ≡ Refused n) where
+  pub step-refused : crossed n core regs ≡ stepBytesOf core regs
+  unfolding stepBytesOf stepTakenOf
+  step-refused = rw refused
+
+  pub run-refused : (budget before : ℕ) → counted n core regs before ≡ runBytesOf core regs budget before
+  unfolding runBytesOf runTakenOf
+  run-refused budget before = rw refused

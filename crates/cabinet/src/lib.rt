@@ -1,0 +1,67 @@
+// The cabinet's plugs: what a host program in C may call, over numbers and six-byte words. include/fifty_five.h tells it to C.
+mod lengths;
+mod rows;
+mod turns;
+
+use crate::lengths::load_number;
+use crate::rows::Taken;
+use crate::rows::take;
+use crate::turns::run_in;
+use crate::turns::step_in;
+ghost use mathlib.Core.Path.{_≡_};
+ghost use lib.ListN.{length};
+ghost use Rattle.cabinet.specs.Crossings.{Loaded, crossed, counted, stepBytesOf, runBytesOf};
+
+// Room for a core at its largest, where its words stand while the machine works on them: there is no heap.
+fn room() -> [u64; 32768]
+    ensures { λ r. ⌜ length r ≡ 32768 ⌝ }
+{
+    [0u64; 32768]
+}
+
+// Copies a core file to a core of its exact length, and answers 0; or 4 or 1, and leaves the core as it was.
+#[no_mangle]
+pub extern "C" fn fifty_five_load(file: &[u8], core: &mut [u8]) -> u64
+    ensures { λ r. ⌜ Loaded (now (file .entry)) (now (core .entry)) (now (core .exit)) r ⌝ }
+{
+    let n = load_number(file.len(), core.len());
+    if n == 0 {
+        bytes::copy(file, core);
+    }
+    n
+}
+
+// One syllable. The checks are 4, 1, 3 in this order; then the machine answers.
+#[no_mangle]
+pub extern "C" fn fifty_five_step(core: &mut [u8], regs: &mut [u8]) -> u64
+    ensures { λ r. ⌜ crossed r (now (core .exit)) (now (regs .exit)) ≡ stepBytesOf (now (core .entry)) (now (regs .entry)) ⌝ }
+{
+    let n = core.len();
+    match take(n, &regs[..]) {
+        Taken::Set(g) => {
+            let mut words = room();
+            step_in(&mut words[..n / 6], core, regs, g)
+        }
+        Taken::Refused(number) => number,
+    }
+}
+
+// Syllables until a stop or until the budget is spent. The checks are 4, 1, 3, 5 in this order; then the machine answers.
+#[no_mangle]
+pub extern "C" fn fifty_five_run(
+    core: &mut [u8],
+    regs: &mut [u8],
+    budget: u64,
+    completed: &mut u64,
+) -> u64
+    ensures { λ r. ⌜ counted r (now (core .exit)) (now (regs .exit)) (now (completed .exit)) ≡ runBytesOf (now (core .entry)) (now (regs .entry)) budget (now (completed .entry)) ⌝ }
+{
+    let n = core.len();
+    match take(n, &regs[..]) {
+        Taken::Set(g) => {
+            let mut words = room();
+            run_in(&mut words[..n / 6], core, regs, g, budget, completed)
+        }
+        Taken::Refused(number) => number,
+    }
+}

@@ -1,0 +1,1 @@
+// The statements of the demands, as theorems over the definitions.

@@ -1,0 +1,103 @@
+-- The number of a hand-out, check by check, and what a 0 says of the cell and the word in it.
+use Prim.Native.Nat.{ℕ, suc, _+_, _<_, _≤_}
+use mathlib.Core.Path.{_≡_, refl}
+use mathlib.Core.Bool.{Bool, true, false, _&&_}
+use mathlib.Core.List.{List}
+use native.Mathlib.Omega.{arith}
+use borrow.Author.Tests.{lt-ltb, le-ltb, eq-eqb, ne-eqb, ltb-true, leb-true, eqb-true}
+use lib.Dec.{eqb, ltb, leb}
+use lib.ListN.{length}
+use Rattle.word.specs.Core.{lengthFits, wordsFit}
+use Rattle.word.specs.Layout.{presenceOf, sizeOf, addressOf}
+use Rattle.word.specs.Kinds.{kindOf}
+use Rattle.handout.specs.HandOut.{choose, isData, arrayFits, placeOf, wordOf, cellFits, numberOf, startOf, countOf}
+
+module _ (core : List ℕ) (r cell : ℕ) where
+  pub number-length : lengthFits core ≡ false → 1 ≡ numberOf core r cell
+  unfolding numberOf
+  number-length l = rw l
+
+  pub number-words : lengthFits core ≡ true → wordsFit core ≡ false → 2 ≡ numberOf core r cell
+  unfolding numberOf
+  number-words l w = rw (l, w)
+
+  pub number-r : lengthFits core ≡ true → wordsFit core ≡ true → 512 ≤ r → 3 ≡ numberOf core r cell
+  unfolding numberOf
+  number-r l w h = rw (l, w, le-ltb r 512 h)
+
+  pub number-cell : lengthFits core ≡ true → wordsFit core ≡ true → r < 512 → 1024 ≤ cell → 3 ≡ numberOf core r cell
+  unfolding numberOf
+  number-cell l w h k = rw (l, w, lt-ltb r 512 h, le-ltb cell 1024 k)
+
+  pub number-out : lengthFits core ≡ true → wordsFit core ≡ true → r < 512 → cell < 1024 → length core ≤ placeOf r cell → 36 ≡ numberOf core r cell
+  unfolding numberOf cellFits
+  number-out l w h k o =
+      rw (l, w, lt-ltb r 512 h, lt-ltb cell 1024 k, le-ltb (placeOf r cell) (length core) o)
+
+  pub number-unfit : lengthFits core ≡ true → wordsFit core ≡ true → r < 512 → cell < 1024 → placeOf r cell < length core → arrayFits (length core) (wordOf core r cell) ≡ false
+      → 36 ≡ numberOf core r cell
+  unfolding numberOf cellFits
+  number-unfit l w h k o f =
+      rw (l, w, lt-ltb r 512 h, lt-ltb cell 1024 k, lt-ltb (placeOf r cell) (length core) o, f)
+
+  pub number-fits : lengthFits core ≡ true → wordsFit core ≡ true → r < 512 → cell < 1024 → placeOf r cell < length core → arrayFits (length core) (wordOf core r cell) ≡ true
+      → 0 ≡ numberOf core r cell
+  unfolding numberOf cellFits
+  number-fits l w h k o f =
+      rw (l, w, lt-ltb r 512 h, lt-ltb cell 1024 k, lt-ltb (placeOf r cell) (length core) o, f)
+
+-- A cell with number 0 is in core, and its word names some words, all in core.
+pub record Named (core : List ℕ) (r cell : ℕ) : Type 0 where
+  pub inside : placeOf r cell < length core
+  pub some : 0 < sizeOf (wordOf core r cell)
+  pub whole : addressOf (wordOf core r cell) + sizeOf (wordOf core r cell) ≤ length core
+
+no : {A : Type 0} (n : ℕ) → suc n ≡ 0 → A
+no n e = absurd (omega arith)
+
+module _ (core : List ℕ) (r cell : ℕ) where
+  pub number-named : numberOf core r cell ≡ 0 → Named core r cell
+  unfolding numberOf cellFits arrayFits
+  number-named e = by (lengthFits core) (wordsFit core) (ltb r 512 && ltb cell 1024) _ (isData (kindOf (wordOf core r cell)) && presenceOf (wordOf core r cell)) _ _ refl refl refl e
+    where
+      by : (a b c d f g h : Bool) → ltb (placeOf r cell) (length core) ≡ d → ltb 0 (sizeOf (wordOf core r cell)) ≡ g → leb (addressOf (wordOf core r cell) + sizeOf (wordOf core r cell)) (length core) ≡ h
+          → _≡_ {A = ℕ} (choose a (choose b (choose c (choose (d && (f && g && h)) 0 36) 3) 2) 1) 0 → Named core r cell
+      by true true true true true true true p q s e =
+          record {
+            inside = ltb-true (placeOf r cell) (length core) p;
+            some = ltb-true 0 (sizeOf (wordOf core r cell)) q;
+            whole = leb-true (addressOf (wordOf core r cell) + sizeOf (wordOf core r cell)) (length core) s;
+          }
+      by true true true true true true false p q s e = no 35 e
+      by true true true true true false h p q s e = no 35 e
+      by true true true true false g h p q s e = no 35 e
+      by true true true false f g h p q s e = no 35 e
+      by true true false d f g h p q s e = no 2 e
+      by true false c d f g h p q s e = no 1 e
+      by false b c d f g h p q s e = no 0 e
+
+  -- The start and the count of each case.
+  pub start-given : numberOf core r cell ≡ 0 → addressOf (wordOf core r cell) ≡ startOf core r cell
+  unfolding startOf
+  start-given e = rw (eq-eqb (numberOf core r cell) 0 e)
+
+  pub count-given : numberOf core r cell ≡ 0 → sizeOf (wordOf core r cell) ≡ countOf core r cell
+  unfolding countOf
+  count-given e = rw (eq-eqb (numberOf core r cell) 0 e)
+
+  pub start-none : (numberOf core r cell ≡ 0 → ⊥) → 0 ≡ startOf core r cell
+  unfolding startOf
+  start-none n = rw (ne-eqb (numberOf core r cell) 0 n)
+
+  pub count-none : (numberOf core r cell ≡ 0 → ⊥) → 0 ≡ countOf core r cell
+  unfolding countOf
+  count-none n = rw (ne-eqb (numberOf core r cell) 0 n)
+
+  -- A stretch lies wholly in core, the empty one too.
+  pub within : startOf core r cell + countOf core r cell ≤ length core
+  unfolding startOf countOf
+  within = by _ refl
+    where
+      by : (b : Bool) → eqb (numberOf core r cell) 0 ≡ b → choose b (addressOf (wordOf core r cell)) 0 + choose b (sizeOf (wordOf core r cell)) 0 ≤ length core
+      by true e = number-named (eqb-true (numberOf core r cell) 0 e) .whole
+      by false e = omega arith

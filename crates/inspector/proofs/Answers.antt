@@ -1,0 +1,84 @@
+-- The answer, rule by rule, and what a search that found nothing says.
+use Prim.Native.Nat.{ℕ, zero, suc, _+_, _*_, _%_, _≤_, _<_}
+use mathlib.Core.Path.{_≡_, refl, sym, _∙_, ap, subst}
+use mathlib.Core.Bool.{Bool, true, false, not, _&&_, false≢true}
+use mathlib.Core.List.{List}
+use native.Mathlib.Omega.{arith}
+use borrow.Author.Tests.{leb-true, eqb-true, eqb-false, not-false}
+use lib.Dec.{eqb, leb}
+use lib.ListN.{length}
+use Rattle.inspector.specs.declared.verdict.Verdict.{Verdict}
+use Rattle.inspector.specs.declared.verdict.Find.{Find}
+use Rattle.inspector.specs.declared.verdict.Find.the-variants.{At, Nowhere}
+use Rattle.inspector.specs.Sheets.{Entry, entryAt, entries, codeWordsOf, roomOf, tableOf, ranged, recordGood, sheetFits}
+use Rattle.inspector.specs.Verdicts.{Found, at, nowhere, lowest, given, blamed, refused}
+use Rattle.inspector.specs.Forms.{foundOf, Ranged}
+
+pub blames : (n : ℕ) {p : ℕ} {f : Found} {r : Find} (rest : Verdict) → foundOf r ≡ f → r ≡ At p → given n p ≡ blamed n f rest
+blames n rest e t = sym (ap (λ (x : Found). blamed n x rest) (sym e ∙ ap foundOf t))
+
+pub passes : (n : ℕ) {f : Found} {r : Find} {v rest : Verdict} → foundOf r ≡ f → r ≡ Nowhere → v ≡ rest → v ≡ blamed n f rest
+passes n {rest = rest} e t g = g ∙ sym (ap (λ (x : Found). blamed n x rest) (sym e ∙ ap foundOf t))
+
+pub refuses : (n : ℕ) {b r : Bool} (rest : Verdict) → r ≡ b → r ≡ false → given n 0 ≡ refused n b rest
+refuses n rest e t = sym (ap (λ (x : Bool). refused n x rest) (sym e ∙ t))
+
+pub admits : (n : ℕ) {b r : Bool} {v rest : Verdict} → r ≡ b → r ≡ true → v ≡ rest → v ≡ refused n b rest
+admits n {rest = rest} e t g = g ∙ sym (ap (λ (x : Bool). refused n x rest) (sym e ∙ t))
+
+at-not-nowhere : {A : Type 0} {p : ℕ} → at p ≡ nowhere → A
+at-not-nowhere e = absurd (clash e)
+  where
+    clash : {p : ℕ} → at p ≡ nowhere → ⊥
+    clash e = let z : _≡_ {A = ℕ} 0 1 = cc in omega arith
+
+-- A search that found nothing passed every place.
+pub none-found : (p : ℕ → Bool) (n i : ℕ) → lowest p n i ≡ nowhere → (j : ℕ) → i ≤ j → j < i + n → p j ≡ false
+none-found p zero i e j h l = absurd (none h l)
+  where
+    none : i ≤ j → j < i + 0 → ⊥
+    none h l = omega arith
+none-found p (suc n) i e j h l = by (p i) (eqb j i) refl refl e (λ f k. none-found p n (suc i) f j k (omega arith))
+  where
+    by : (b c : Bool) → p i ≡ b → eqb j i ≡ c → elim b [ true ↦ at i | false ↦ lowest p n (suc i) ] ≡ nowhere → (lowest p n (suc i) ≡ nowhere → suc i ≤ j → p j ≡ false) → p j ≡ false
+    by true c f g e k = at-not-nowhere e
+    by false true f g e k = ap p (eqb-true j i g) ∙ f
+    by false false f g e k = k e (omega (arith, eqb-false j i g))
+
+pub first-of : (a b : Bool) → (a && b) ≡ true → a ≡ true
+first-of true b e = refl
+first-of false b e = e
+
+pub second-of : (a b : Bool) → (a && b) ≡ true → b ≡ true
+second-of true b e = e
+second-of false b e = absurd (false≢true e)
+
+-- A record in its ranges has a count of at most so many.
+ranged-most : (kind far least most : ℕ) (e : Entry) → ranged kind far least most e ≡ true → e .count ≤ most
+ranged-most kind far least most e t =
+    leb-true (e .count) most
+    (second-of (eqb (e .kind) kind && eqb (e .gap) 0 && leb (e .first) far && leb least (e .count)) (leb (e .count) most) t)
+
+module _ (sheet : List ℕ) (s : sheetFits sheet ≡ true) where
+  pub fits-least : 3 ≤ entries sheet
+  unfolding sheetFits
+  fits-least = leb-true 3 (entries sheet) (second-of (eqb (length sheet % 6) 0) (leb 3 (entries sheet)) (first-of (eqb (length sheet % 6) 0 && leb 3 (entries sheet)) (leb (entries sheet) 1027) s))
+
+  pub fits-most : entries sheet ≤ 1027
+  unfolding sheetFits
+  fits-most = leb-true (entries sheet) 1027 (second-of (eqb (length sheet % 6) 0 && leb 3 (entries sheet)) (leb (entries sheet) 1027) s)
+
+  -- The counts of the first three records, once none is bad.
+  pub ranges : lowest (λ (i : ℕ). not (recordGood sheet i)) (entries sheet) 0 ≡ nowhere → Ranged sheet
+  unfolding recordGood
+  ranges e =
+      record {
+        least = fits-least;
+        most = fits-most;
+        words = ranged-most 1 32767 1 1024 (entryAt sheet 0) (good 0 (omega (arith, fits-least)));
+        room = omega (arith, ranged-most 2 32767 0 1023 (entryAt sheet 1) (good 1 (omega (arith, fits-least))));
+        table = ranged-most 5 511 64 1024 (entryAt sheet 2) (good 2 (omega (arith, fits-least)));
+      }
+    where
+      good : (j : ℕ) → j < entries sheet → recordGood sheet j ≡ true
+      good j h = not-false (recordGood sheet j) (none-found (λ (i : ℕ). not (recordGood sheet i)) (entries sheet) 0 e j (omega arith) (omega arith))

@@ -1,0 +1,13 @@
+pub mod Aims
+pub mod Answers
+pub mod Arrays
+pub mod Doings
+pub mod Exact
+pub mod Examples
+pub mod Goings
+pub mod Paints
+pub mod Records
+pub mod Searches
+pub mod Stacks
+pub mod Syllables
+pub mod Views

@@ -1,0 +1,71 @@
+-- The sheet: six-byte records, and rules 30 and 31.
+use Prim.Native.Nat.{ℕ, zero, suc, _+_, _-_, _*_, _/_, _%_}
+use mathlib.Core.Bool.{Bool, true, false, _&&_, _||_}
+use mathlib.Core.List.{List}
+use lib.Dec.{eqb, ltb, leb}
+use lib.ListN.{length, getD}
+
+-- "Six-byte records: kind, 0, first (2 bytes), count (2 bytes), highest byte first."
+pub record Entry : Type 0 where
+  pub kind : ℕ
+  pub gap : ℕ
+  pub first : ℕ
+  pub count : ℕ
+
+abbrev pub entryAt : List ℕ → ℕ → Entry
+entryAt sheet i =
+    record {
+      kind = getD sheet (6 * i) 0;
+      gap = getD sheet (6 * i + 1) 0;
+      first = 256 * getD sheet (6 * i + 2) 0 + getD sheet (6 * i + 3) 0;
+      count = 256 * getD sheet (6 * i + 4) 0 + getD sheet (6 * i + 5) 0;
+    }
+
+abbrev pub entries : List ℕ → ℕ
+entries sheet = length sheet / 6
+
+-- "Record 0: kind 1, code words. Record 1: kind 2, starting S and room d. Record 2: kind 5, R and table length."
+abbrev pub codeOf : List ℕ → ℕ
+codeOf sheet = entryAt sheet 0 .first
+
+abbrev pub codeWordsOf : List ℕ → ℕ
+codeWordsOf sheet = entryAt sheet 0 .count
+
+abbrev pub sOf : List ℕ → ℕ
+sOf sheet = entryAt sheet 1 .first
+
+abbrev pub roomOf : List ℕ → ℕ
+roomOf sheet = entryAt sheet 1 .count
+
+abbrev pub rOf : List ℕ → ℕ
+rOf sheet = entryAt sheet 2 .first
+
+abbrev pub tableOf : List ℕ → ℕ
+tableOf sheet = entryAt sheet 2 .count
+
+-- "30, length not 6 times 3 to 1,027."
+unfoldable pub sheetFits : List ℕ → Bool
+sheetFits sheet = eqb (length sheet % 6) 0 && leb 3 (entries sheet) && leb (entries sheet) 1027
+
+-- A record of a kind, its byte 1 being 0, with first and count in their ranges.
+abbrev pub ranged : ℕ → ℕ → ℕ → ℕ → Entry → Bool
+ranged kind firstMost least most e =
+    eqb (e .kind) kind && eqb (e .gap) 0 && leb (e .first) firstMost && leb least (e .count) && leb (e .count) most
+
+-- "Then kind 3 number cells or kind 4 array cells: first cell, count over 0, within the table, rising, not overlapping."
+-- The cells before `floor` are taken.
+abbrev pub cellsGood : ℕ → ℕ → Entry → Bool
+cellsGood table floor e =
+    (eqb (e .kind) 3 || eqb (e .kind) 4) && eqb (e .gap) 0 && ltb 0 (e .count) && leb (e .first + e .count) table && leb floor (e .first)
+
+-- Where the cells of the record before the j-th cell record end.
+abbrev pub floorOf : List ℕ → ℕ → ℕ
+floorOf sheet zero = 0
+floorOf sheet (suc j) = entryAt sheet (3 + j) .first + entryAt sheet (3 + j) .count
+
+-- "First of a place is at most 32,767; R at most 511."
+unfoldable pub recordGood : List ℕ → ℕ → Bool
+recordGood sheet zero = ranged 1 32767 1 1024 (entryAt sheet 0)
+recordGood sheet (suc zero) = ranged 2 32767 0 1023 (entryAt sheet 1)
+recordGood sheet (suc (suc zero)) = ranged 5 511 64 1024 (entryAt sheet 2)
+recordGood sheet (suc (suc (suc j))) = cellsGood (tableOf sheet) (floorOf sheet j) (entryAt sheet (3 + j))

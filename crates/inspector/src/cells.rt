@@ -1,0 +1,173 @@
+// The cells by their kinds, and rule 33.
+use crate::areas::meets;
+use crate::sheets::count;
+use crate::sheets::first;
+use crate::sheets::kind;
+use crate::tests::both;
+use crate::tests::negated;
+use crate::verdict::Find;
+ghost use mathlib.Core.Path.{_≡_};
+ghost use mathlib.Core.Bool.{not};
+ghost use Prim.Native.Nat.{_+_, _*_, _≤_};
+ghost use lib.ListN.{length, getD, set, replicate};
+ghost use Rattle.inspector.specs.Sheets.{entries, codeOf, codeWordsOf, sOf, roomOf, rOf, tableOf};
+ghost use Rattle.inspector.specs.Areas.{meets as meetsOf};
+ghost use Rattle.inspector.specs.Cells.{cellOf, plainWords, arrayFits, unfit as unfitOf};
+ghost use Rattle.inspector.specs.Verdicts.{lowest};
+ghost use Rattle.inspector.specs.Forms.{foundOf, Painted, Cells, namedOf, clearOf};
+
+// The word at an address, and 0 outside core.
+pub fn word_at(core: &[u64], at: usize) -> u64
+    ensures { λ r. ⌜ r ≡ getD (now (core .entry)) at 0 ⌝ }
+{
+    if at < core.len() {
+        return core[at];
+    }
+    0
+}
+
+// Writes a kind to a cell that there is.
+fn put(cells: &mut [u8], c: usize, kind: u8)
+    ensures { λ _. ⌜ now (cells .exit) ≡ set (now (cells .entry)) c kind ⌝ }
+{
+    if c < cells.len() {
+        cells[c] = kind;
+    }
+}
+
+// Writes a kind to n cells from a on.
+fn paint(cells: &mut [u8], a: u16, n: u16, kind: u8)
+    requires { ⌜ length (now cells) ≡ 1024 ⌝ }
+    ensures { λ _. ⌜ Painted a n kind (now (cells .entry)) (now (cells .exit)) ⌝ }
+{
+    let mut j = 0u16;
+    while j < n {
+        put(cells, a as usize + j as usize, kind);
+        j += 1;
+    }
+}
+
+// The kind of every cell, from the last record to the first.
+pub fn fill(cells: &mut [u8], sheet: &[u8])
+    requires { ⌜ (3 ≤ entries (now sheet)) × (entries (now sheet) ≤ 1027) × (now cells ≡ replicate 1024 0) ⌝ }
+    ensures { λ _. ⌜ Cells (now (cells .exit)) (now (sheet .entry)) ⌝ }
+{
+    let mut i = (sheet.len() / 6) as u16;
+    while 3 < i {
+        i -= 1;
+        let a = first(sheet, i);
+        let n = count(sheet, i);
+        let k = kind(sheet, i);
+        paint(cells, a, n, k);
+    }
+}
+
+// All n words from a on have their flag off.
+fn plain_words(core: &[u64], a: u16, n: u16) -> bool
+    ensures { λ r. ⌜ r ≡ plainWords (now (core .entry)) a n ⌝ }
+{
+    let mut j = 0u16;
+    while j < n {
+        let w = word_at(core, a as usize + j as usize);
+        if word::flag(w) {
+            return false;
+        }
+        j += 1;
+    }
+    true
+}
+
+// A present data descriptor of size over 0.
+fn named(d: u64) -> bool
+    ensures { λ r. ⌜ r ≡ namedOf d ⌝ }
+{
+    both(
+        both(
+            both(word::flag(d), negated(word::sign(d))),
+            word::presence(d),
+        ),
+        0 < word::size(d),
+    )
+}
+
+// The n words from a on meet no code word.
+fn clear_of_code(sheet: &[u8], a: u16, n: u16) -> bool
+    ensures { λ r. ⌜ r ≡ not (meetsOf a n (codeOf (now (sheet .entry))) (codeWordsOf (now (sheet .entry)))) ⌝ }
+{
+    let code = first(sheet, 0);
+    let words = count(sheet, 0);
+    negated(meets(a as u32, n, code as u32, words))
+}
+
+// The n words from a on meet no word of the stack's room.
+fn clear_of_stack(sheet: &[u8], a: u16, n: u16) -> bool
+    ensures { λ r. ⌜ r ≡ not (meetsOf a n (sOf (now (sheet .entry)) + 1) (roomOf (now (sheet .entry)))) ⌝ }
+{
+    let s = first(sheet, 1);
+    let room = count(sheet, 1);
+    negated(meets(a as u32, n, s as u32 + 1, room))
+}
+
+// The n words from a on meet no cell of the table.
+fn clear_of_table(sheet: &[u8], a: u16, n: u16) -> bool
+    ensures { λ r. ⌜ r ≡ not (meetsOf a n (64 * rOf (now (sheet .entry))) (tableOf (now (sheet .entry)))) ⌝ }
+{
+    let r = first(sheet, 2);
+    let table = count(sheet, 2);
+    negated(meets(a as u32, n, 64 * r as u32, table))
+}
+
+// An array's area is in core, and meets none of the three stretches.
+fn clear(core: &[u64], sheet: &[u8], a: u16, n: u16) -> bool
+    ensures { λ r. ⌜ r ≡ clearOf (now (core .entry)) (now (sheet .entry)) a n ⌝ }
+{
+    let end = a as usize + n as usize;
+    let code = clear_of_code(sheet, a, n);
+    let stack = clear_of_stack(sheet, a, n);
+    let table = clear_of_table(sheet, a, n);
+    both(both(both(end <= core.len(), code), stack), table)
+}
+
+fn array_fits(core: &[u64], sheet: &[u8], d: u64) -> bool
+    ensures { λ r. ⌜ r ≡ arrayFits (now (core .entry)) (now (sheet .entry)) d ⌝ }
+{
+    let a = word::address(d);
+    let n = word::size(d);
+    if both(named(d), clear(core, sheet, a, n)) {
+        return plain_words(core, a, n);
+    }
+    false
+}
+
+// A named cell that does not hold what its record says.
+fn unfit_at(core: &[u64], sheet: &[u8], kind: u8, c: u16) -> bool
+    requires { ⌜ kind ≡ cellOf (now sheet) c ⌝ }
+    ensures { λ r. ⌜ r ≡ unfitOf (now (core .entry)) (now (sheet .entry)) c ⌝ }
+{
+    let r = first(sheet, 2);
+    let w = word_at(core, 64 * r as usize + c as usize);
+    if kind == 3 {
+        return word::flag(w);
+    }
+    if kind == 4 {
+        return negated(array_fits(core, sheet, w));
+    }
+    false
+}
+
+// "33, lowest named cell unfit"
+pub fn unfit(core: &[u64], sheet: &[u8], cells: &[u8]) -> Find
+    requires { ⌜ (tableOf (now sheet) ≤ 1024) × Cells (now cells) (now sheet) ⌝ }
+    ensures { λ r. ⌜ foundOf r ≡ lowest (unfitOf (now (core .entry)) (now (sheet .entry))) (tableOf (now (sheet .entry))) 0 ⌝ }
+{
+    let n = count(sheet, 2);
+    let mut c = 0u16;
+    while c < n {
+        let at = c as usize;
+        if unfit_at(core, sheet, cells[at], c) {
+            return Find::At(c as u64);
+        }
+        c += 1;
+    }
+    Find::Nowhere
+}

@@ -1,0 +1,102 @@
+-- What a posting is, by the inspector's answer and the budget; and its guarantees, from demand 3.
+use Prim.Native.Nat.{ℕ, suc, _+_, _*_, _<_, _≤_}
+use mathlib.Core.Path.{_≡_, refl, sym, _∙_, ap}
+use mathlib.Core.Logic.{_≢_}
+use mathlib.Core.Bool.{Bool, true, false, not, true≢false}
+use mathlib.Core.List.{List}
+use native.Mathlib.Omega.{arith}
+use borrow.Author.Tests.{eq-eqb, ne-eqb, eqb-true, le-leb, lt-leb}
+use lib.Dec.{eqb, leb}
+use Rattle.machine.specs.declared.outcome.Registers.{Registers}
+use Rattle.machine.specs.Outcomes.{if_then_else_}
+use Rattle.machine.specs.Steps.{refusalOf}
+use Rattle.machine.specs.Runs.{Run, runFrom, runOf}
+use Rattle.inspector.specs.declared.verdict.Verdict.{Verdict}
+use Rattle.inspector.specs.Sheets.{entries, codeOf, codeWordsOf, sOf, rOf, tableOf, sheetFits, recordGood}
+use Rattle.inspector.specs.Areas.{astray}
+use Rattle.inspector.specs.Cells.{unfit}
+use Rattle.inspector.specs.Scan.{breaksAt}
+use Rattle.inspector.specs.Targets.{missesTarget}
+use Rattle.inspector.specs.Verdicts.{Found, at, nowhere, lowest, given, blamed, refused, verdictOf}
+use Rattle.word.specs.Core.{lengthFits, wordsFit}
+use Rattle.demands.specs.Stays.{startOf}
+use Rattle.demands.specs.Leaves.{Leaves}
+use Rattle.demands.proofs.Checked.{run-leaves, start-passes}
+use Rattle.post.specs.Posting.{Posting, turnedAway, ran, within, judged, postOf, Guarantees, Posts}
+
+-- ---- an answer of 0 is at place 0
+
+Zero : Verdict → Type 0
+Zero v = v .number ≡ 0 → v ≡ given 0 0
+
+zero-refused : (n : ℕ) (b : Bool) (rest : Verdict) → Zero rest → Zero (refused (suc n) b rest)
+unfolding Zero
+zero-refused n true rest h = h
+zero-refused n false rest h = λ e. absurd (omega arith)
+
+zero-blamed : (n : ℕ) (f : Found) (rest : Verdict) → Zero rest → Zero (blamed (suc n) f rest)
+unfolding Zero
+zero-blamed n (at p) rest h = λ e. absurd (omega arith)
+zero-blamed n nowhere rest h = h
+
+zero-given : Zero (given 0 0)
+unfolding Zero
+zero-given = λ e. refl
+
+pub passes : (core sheet : List ℕ) → verdictOf core sheet .number ≡ 0 → verdictOf core sheet ≡ given 0 0
+unfolding Zero verdictOf
+passes core sheet =
+    zero-refused 0 (lengthFits core) _
+    (zero-refused 1 (wordsFit core) _
+    (zero-refused 29 (sheetFits sheet) _
+    (zero-blamed 30 (lowest (λ i. not (recordGood sheet i)) (entries sheet) 0) _
+    (zero-blamed 31 (lowest (astray core sheet) 3 0) _
+    (zero-blamed 32 (lowest (unfit core sheet) (tableOf sheet) 0) _
+    (zero-blamed 33 (lowest (breaksAt core sheet) (4 * codeWordsOf sheet) 0) _
+    (zero-blamed 34 (lowest (missesTarget core sheet) (4 * codeWordsOf sheet) 0) _ zero-given)))))))
+
+-- ---- the guarantees
+
+guard : (core sheet : List ℕ) (budget : ℕ) (b : Bool) (v : Verdict) → (b ≡ true → verdictOf core sheet ≡ given 0 0) → (b ≡ false → v .number ≢ 0)
+    → Guarantees core sheet (judged b v core sheet budget)
+guard core sheet budget true v p q = cut (leb budget 1000000)
+  where
+    cut : (d : Bool) → Guarantees core sheet (within d core sheet budget)
+    cut true = record { away = λ n. absurd (n refl); posted = λ e. run-leaves core sheet (p refl) budget }
+    cut false = record { away = λ n. refl; posted = λ e. absurd (omega arith) }
+guard core sheet budget false v p q = record { away = λ n. refl; posted = λ e. absurd (q refl e) }
+
+pub guarantees : (core sheet : List ℕ) (budget : ℕ) → Guarantees core sheet (postOf core sheet budget)
+unfolding postOf
+guarantees core sheet budget =
+    guard core sheet budget (eqb (verdictOf core sheet .number) 0) (verdictOf core sheet)
+    (λ t. passes core sheet (eqb-true (verdictOf core sheet .number) 0 t))
+    (λ t e. true≢false (sym (eq-eqb (verdictOf core sheet .number) 0 e) ∙ t))
+
+pub posts : (core sheet : List ℕ) (budget : ℕ) {r : Posting} → r ≡ postOf core sheet budget → Posts core sheet budget r
+posts core sheet budget e = rw e (record { same = refl; guarded = guarantees core sheet budget })
+
+-- ---- what `post` answers, by its tests
+
+module _ (core sheet : List ℕ) (budget : ℕ) {v : Verdict} (e : v ≡ verdictOf core sheet) where
+  pub post-away : {g : Registers} → g ≡ startOf core sheet .regs → (v .number ≡ 0 → ⊥) → record { number = v .number; place = v .place; stop = 0; completed = 0; core = core; regs = g } ≡ postOf core sheet budget
+  unfolding postOf
+  post-away s n = rw (s, ← e, ne-eqb (v .number) 0 n)
+
+  pub post-over : {g : Registers} → g ≡ startOf core sheet .regs → v .number ≡ 0 → 1000000 < budget → record { number = 5; place = 0; stop = 0; completed = 0; core = core; regs = g } ≡ postOf core sheet budget
+  unfolding postOf
+  post-over s z h = rw (s, ← e, eq-eqb (v .number) 0 z, lt-leb budget 1000000 h)
+
+  run-start : v .number ≡ 0 → budget ≤ 1000000 → runOf core (startOf core sheet .regs) budget ≡ runFrom budget (startOf core sheet)
+  unfolding runOf if_then_else_
+  run-start z h =
+      rw (eq-eqb (refusalOf core (startOf core sheet .regs)) 0 (start-passes core sheet (passes core sheet (ap (λ (x : Verdict). x .number) (sym e) ∙ z))), le-leb budget 1000000 h)
+
+  pub post-ran : {g : Registers} {r : Run} → g ≡ startOf core sheet .regs → v .number ≡ 0 → budget ≤ 1000000 → r ≡ runOf core g budget → ran r ≡ postOf core sheet budget
+  unfolding postOf
+  post-ran {g} {r} s z h d = rw (← e, eq-eqb (v .number) 0 z, le-leb budget 1000000 h) (ap ran (d ∙ ap (λ (x : Registers). runOf core x budget) s ∙ run-start z h))
+
+-- The registers at the start, from the sheet's bytes.
+pub starts : (core sheet : List ℕ) {c s r : ℕ} → c ≡ codeOf sheet → s ≡ sOf sheet → r ≡ rOf sheet
+    → record { a = 0; afull = false; b = 0; bfull = false; s = s; f = 0; c = c; r = r; l = 0; salf = false; msff = false } ≡ startOf core sheet .regs
+starts core sheet p q t = rw (p, q, t)

@@ -1,0 +1,59 @@
+/*
+ * compare COUNT SEED [--plant WHAT]: the cabinet beside the second machine, on stored cases and on
+ * COUNT cases by chance. Ends with status 0 if they agree everywhere and every reachable pair of
+ * operator and stop was reached.
+ */
+#include "compare.h"
+
+#include <stdio.h>
+#include <stdlib.h>
+#include <string.h>
+
+static int usage(void)
+{
+    fprintf(stderr, "compare COUNT SEED [--plant number|register|core|completed]\n");
+    return 2;
+}
+
+static bool read_number(const char *text, uint64_t *number)
+{
+    char *end;
+    *number = strtoull(text, &end, 10);
+    return *text != '\0' && *end == '\0';
+}
+
+/* One planted difference: the next case that can show it must be found to differ. */
+static bool read_plant(const char *what)
+{
+    static const char *const names[] = {"number", "register", "core", "completed"};
+    for (unsigned i = 0; i < sizeof names / sizeof *names; i++)
+        if (strcmp(what, names[i]) == 0)
+            planted = (enum planted)(PLANT_NUMBER + i);
+    return planted != PLANT_NOTHING;
+}
+
+static unsigned report(const char *group, uint64_t count, unsigned failures)
+{
+    printf("compare: %s: %s: %llu cases, %u failures\n", failures == 0 ? "ok" : "FAILED", group,
+           (unsigned long long)count, failures);
+    return failures;
+}
+
+int main(int argc, char **argv)
+{
+    uint64_t count, seed;
+    if (argc < 3 || !read_number(argv[1], &count) || !read_number(argv[2], &seed))
+        return usage();
+    if (argc != 3 && (argc != 5 || strcmp(argv[3], "--plant") != 0 || !read_plant(argv[4])))
+        return usage();
+    uint64_t eighth = count / 8;
+    chance_seed(seed);
+    unsigned failures = report("run", 2 * eighth, group_run(2 * eighth));
+    failures += report("step", count - 4 * eighth, group_step(count - 4 * eighth));
+    failures += report("files", eighth, group_files(eighth));
+    failures += report("malformed", eighth, group_malformed(eighth));
+    unsigned missing = pairs_missing();
+    failures += report("pairs of operator and stop", pairs_all(), missing);
+    failures += report("stored cases", cases_all(), group_cases());
+    return failures != 0;
+}

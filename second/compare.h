@@ -1,0 +1,73 @@
+/* What the parts of `compare` share: the cabinet (../include/fifty_five.h) beside the second machine. */
+#ifndef SECOND_COMPARE_H
+#define SECOND_COMPARE_H
+
+#include <stdbool.h>
+#include <stddef.h>
+#include <stdint.h>
+
+#include "../include/fifty_five.h"
+#include "fifty_five_second.h"
+
+enum { MOST = FIFTY_FIVE_MOST_WORDS, WORD = FIFTY_FIVE_WORD_BYTES, ROW = FIFTY_FIVE_ROW_BYTES };
+
+/* Bit n of a word, and the largest magnitude. */
+#define ON(n) (UINT64_C(1) << (47 - (n)))
+#define LARGEST ((UINT64_C(1) << 39) - 1)
+
+struct state {
+    uint64_t core[MOST];
+    size_t length;
+    struct second_registers g;
+};
+
+/* ---- both.c: one case on both machines */
+
+/* A difference that is planted in the next case, to see that it is caught. */
+enum planted { PLANT_NOTHING, PLANT_NUMBER, PLANT_REGISTER, PLANT_CORE, PLANT_COMPLETED };
+extern enum planted planted;
+
+void words_to_bytes(const uint64_t *words, size_t n, uint8_t *bytes);
+void bytes_to_words(const uint8_t *bytes, size_t n, uint64_t *words);
+void registers_to_row(const struct second_registers *g, uint8_t row[ROW]);
+
+/* The state moves on; `difference` is NULL, or says in what the two machines differ. */
+struct verdict {
+    uint64_t number, completed;
+    const char *difference;
+};
+struct verdict both_step(struct state *st);
+struct verdict both_run(struct state *st, uint64_t budget);
+
+/* ---- chance.c: numbers, words and states by chance */
+
+void chance_seed(uint64_t seed);
+uint64_t chance(uint64_t below);
+void chance_state(struct state *st);
+void chance_program(struct state *st);
+
+/* ---- pairs.c: operators and the stops that each can reach */
+
+enum { OPERATORS = 36 };
+unsigned operator_code(unsigned operator);
+
+/* The row of the syllable that a state would obey. */
+unsigned pair_row(const struct state *st);
+void pair_count(unsigned row, uint64_t number);
+const char *pair_name(unsigned row);
+/* Prints the table; answers how many reachable pairs were not reached, of how many. */
+unsigned pairs_missing(void);
+unsigned pairs_all(void);
+/* Whether paper 01 can give the number to that syllable. */
+bool pair_possible(unsigned row, uint64_t number);
+
+/* ---- the groups: each answers the number of its failures, which it prints */
+
+unsigned group_step(uint64_t count);
+unsigned group_run(uint64_t count);
+unsigned group_files(uint64_t count);
+unsigned group_malformed(uint64_t count);
+unsigned group_cases(void);
+unsigned cases_all(void);
+
+#endif
