@@ -27,7 +27,7 @@ indexOf w size = do
   z ← takenOf w
   withinOf z size
 
--- "Data descriptor of size over 0: B full, take B as index, empty B, add the index to the address (also modulo 32,768), set size 0."
+-- "Data descriptor of size over 0: B full, take B as index (..), empty B, add the index to the address (also modulo 32,768), set size 0."
 unfoldable pub indexedOf : State → ℕ → Res State
 indexedOf st d =
     if eqb (sizeOf d) 0 then on st

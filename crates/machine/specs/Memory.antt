@@ -1,4 +1,4 @@
--- Addresses: what is in core, and the address of k.
+-- Addresses: what is in core, and the address of k. "The reference table (PRT) starts at 64R."
 use Prim.Native.Nat.{ℕ, _+_, _-_, _*_, _/_, _%_}
 use mathlib.Core.Bool.{Bool, true, false}
 use mathlib.Core.List.{List}

@@ -19,7 +19,7 @@ unfoldable pub if_then_else_ : {A : Type 0} → Bool → A → A → A
 if true then x else y = x
 if false then x else y = y
 
--- "Numbers given back": the number of each cause.
+-- "Numbers given back": "11, 12, 13, 14, 15: address, stack overflow, presence, flag, index"; "19, 20, 21: not built, number not whole 39-bit, zero divisor".
 abbrev pub numberOf : Cause → ℕ
 numberOf Address = 11
 numberOf Overflow = 12

@@ -1,4 +1,4 @@
--- Push, pop and the four adjustments.
+-- Push, pop and the four adjustments. "The stack is core up to S, then B if full, then A if full. It grows upward."
 use Prim.Native.Nat.{ℕ, _+_, _-_, _/_}
 use mathlib.Core.Bool.{Bool, true, false}
 use mathlib.Core.List.{List}
@@ -9,7 +9,7 @@ use Rattle.machine.specs.Outcomes.{Res, on, halt, _>>=_, if_then_else_}
 use Rattle.machine.specs.States.{State, fillA, emptyA, fillB, emptyB, withS, store}
 use Rattle.machine.specs.Memory.{readOf}
 
--- "Push: to S+1. Stop 12 if floor((S+1)/64)=R, else 11 if S+1 is not below the core length." The address that a push writes.
+-- "Push: to S+1; .. Stop 12 if floor((S+1)/64)=R, else 11 if S+1 is not below the core length." The address that a push writes.
 unfoldable pub slotOf : ℕ → ℕ → ℕ → Res ℕ
 slotOf len s r = if eqb ((s + 1) / 64) r then halt Overflow else if ltb (s + 1) len then on (s + 1) else halt Address
 

@@ -5,7 +5,7 @@ use mathlib.Core.List.{List}
 use lib.ListN.{set, getD}
 use Rattle.machine.specs.declared.outcome.Registers.{Registers}
 
--- "Registers: A, B (48 bits, each full or empty; empty holds 0), S, F, C, R, L, flags SALF, MSFF."
+-- "Registers: A, B (48 bits, each full or empty; empty holds 0), S, F, C (15 bits), R (9), L (2), flags SALF, MSFF."
 pub record State : Type 0 where
   pub core : List ℕ
   pub regs : Registers

@@ -105,7 +105,7 @@ abbrev pub holdsWord : Bool → ℕ → Bool
 holdsWord true x = ltb x (2 ^ 48)
 holdsWord false x = eqb x 0
 
--- "3: a register out of range, or an empty register not 0"
+-- "3: a register .. out of range, or an empty register not 0": S, F, C 15 bits, R 9, L 2
 unfoldable pub registersFit : Registers → Bool
 registersFit g =
     holdsWord (g .afull) (g .a) && holdsWord (g .bfull) (g .b) && ltb (g .s) 32768 && ltb (g .f) 32768 && ltb (g .c) 32768
@@ -125,7 +125,7 @@ pub record Stepped : Type 0 where
   pub core : List ℕ
   pub regs : Registers
 
--- "0 means went on. Every number but 17 leaves registers and core as before that syllable."
+-- "0 means went on, .. Every number but 17 leaves registers and core as before that syllable, or untouched if given before it."
 abbrev pub endedAs : Ended → State → Stepped
 endedAs (next u) st = record { number = 0; core = u .core; regs = u .regs }
 endedAs (communicated u) st = record { number = 17; core = u .core; regs = u .regs }
