@@ -49,10 +49,10 @@ static uint64_t chance_operand(void)
         LARGEST, LARGEST - 1, UINT64_C(1) << 38, (UINT64_C(1) << 38) - 1, UINT64_C(1) << 20,
         (UINT64_C(1) << 20) - 1, UINT64_C(1) << 19, (UINT64_C(1) << 19) + 1, 1023, 1024, 4095};
     uint64_t sign = one_in(3) ? ON(1) : 0;
-    switch (chance(8)) {
-    case 0: return sign | limits[chance(sizeof limits / sizeof *limits)];
-    case 1: return sign | (1 + chance(127)) << 39 | (one_in(2) ? 0 : chance(13));
-    case 2: return sign | chance(LARGEST + 1);
+    switch (chance(10)) {
+    case 0: case 1: return sign | limits[chance(sizeof limits / sizeof *limits)];
+    case 2: return sign | (1 + chance(127)) << 39 | (one_in(2) ? 0 : chance(13));
+    case 3: return sign | chance(LARGEST + 1);
     default: return sign | chance(13);
     }
 }
@@ -195,11 +195,64 @@ static void chance_chain(struct state *st)
         st->core[one_in(2) ? f : mark] &= ~ON(0);
 }
 
-/* Words that send a branch to the first or the last syllable, or just past it. */
-static uint64_t chance_distance(const struct state *st)
+/* The longest chain that ends: all words of a full core but the mark. The return is its last. */
+static void longest_chain(struct state *st)
 {
+    uint64_t mark = 1 + chance(MOST - 2), f = MOST - 1;
+    for (uint64_t i = 0; i < MOST; i++)
+        st->core[i] = ON(16) | (i + 1 == mark ? i + 2 : i + 1) % MOST << 15;
+    st->core[mark] = ON(0) | ON(1) | ON(16) | ON(17);
+    st->core[f] = ON(0) | ON(1) | mark << 15 | chance(MOST);
+    st->g.F = f;
+    st->g.SALF = 1;
+    st->g.C = chance(f);
+    st->g.L = 0;
+}
+
+static void fill(struct state *st, uint64_t a, uint64_t b)
+{
+    st->g.a_full = st->g.b_full = 1;
+    st->g.A = a;
+    st->g.B = b;
+}
+
+/* A sum, a difference or a product at the largest magnitude, or one past it. */
+static void numbers_at_the_limit(struct state *st)
+{
+    uint64_t a = chance(LARGEST), signs = chance(4), power = chance(40);
+    uint64_t b = LARGEST - a + chance(2);
+    if (one_in(3)) {
+        a = UINT64_C(1) << power;
+        b = UINT64_C(1) << (39 - power);
+        a -= chance(2);
+    }
+    fill(st, (a & LARGEST) | (signs & 1 ? ON(1) : 0), (b & LARGEST) | (signs & 2 ? ON(1) : 0));
+}
+
+/* A branch to the first or the last syllable, or just past it. */
+static void branch_to_the_end(struct state *st)
+{
+    if (st->length == MOST)
+        st->g.C = one_in(2) ? chance(1000) : MOST - 1 - chance(1000);
     uint64_t next = (4 * st->g.C + st->g.L + 1) % (4 * MOST);
-    return (one_in(2) ? next + chance(2) : 4 * MOST - 1 - next + chance(2)) % 4096;
+    uint64_t distance = next <= 4095 ? next + chance(2) : 4 * MOST - 1 - next + chance(2);
+    fill(st, distance % 4096, chance(10) & ~UINT64_C(1));
+}
+
+/* The syllable to obey; at times with registers and words that bring it to an edge. */
+static unsigned chance_scene(struct state *st)
+{
+    switch (chance(st->length == MOST ? 6 : 12)) {
+    case 0:
+        if (st->length == MOST && one_in(2))
+            longest_chain(st);
+        else if (!one_in(4))
+            chance_chain(st);
+        return 00435;
+    case 1: numbers_at_the_limit(st); return operator_code((unsigned)chance(11));
+    case 2: branch_to_the_end(st); return operator_code((unsigned)(29 + chance(4)));
+    default: return chance_syllable(st);
+    }
 }
 
 void chance_state(struct state *st)
@@ -217,16 +270,15 @@ void chance_state(struct state *st)
     uint64_t filled = chance(4);
     if (filled & 1) {
         st->g.a_full = 1;
-        st->g.A = one_in(8) ? chance_distance(st) : chance_word(st);
+        st->g.A = one_in(2) ? chance_operand() : chance_word(st);
     }
     if (filled & 2) {
         st->g.b_full = 1;
         st->g.B = one_in(2) ? chance_operand() : chance_word(st);
     }
-    if (one_in(24))
-        chance_chain(st);
+    unsigned syllable = chance_scene(st);
     if (st->g.C < st->length)
-        put_syllable(st, st->g.C, st->g.L, one_in(12) ? 00435 : chance_syllable(st));
+        put_syllable(st, st->g.C, st->g.L, syllable);
 }
 
 /* ---- programs: code from word 0 on, stack below or above the table, cells of every kind */

@@ -34,7 +34,7 @@ static bool read_plant(const char *what)
 
 static unsigned report(const char *group, uint64_t count, unsigned failures)
 {
-    printf("compare: %s: %s: %llu cases, %u failures\n", failures == 0 ? "ok" : "FAILED", group,
+    printf("compare: %s: %s: %llu checked, %u failures\n", failures == 0 ? "ok" : "FAILED", group,
            (unsigned long long)count, failures);
     return failures;
 }

@@ -1,11 +1,11 @@
 -- What the machine left is written over all the bytes, since a fit state stays fit.
 use Prim.Native.Nat.{ℕ, _*_, _/_, _%_, _<_, _≤_}
 use mathlib.Core.Path.{_≡_, refl, sym, _∙_, ap}
-use mathlib.Core.Bool.{Bool, true, false, _&&_, false≢true, true≢false}
+use mathlib.Core.Bool.{Bool, true, false, true≢false}
 use mathlib.Core.List.{List}
 use native.Mathlib.Omega.{arith}
 use borrow.Author.Tests.{eq-eqb, eqb-true}
-use lib.Dec.{eqb, ltb, leb}
+use lib.Dec.{eqb, leb}
 use lib.ListN.{length, take}
 use lib.Seq.{length-take-le}
 use Rattle.word.specs.Core.{lengthFits, wordsFit}
@@ -20,7 +20,7 @@ use Rattle.laws.proofs.Fit.{Fit}
 use Rattle.laws.proofs.FitChecks.{fit-refusal}
 use Rattle.laws.proofs.FitSteps.{step-fit, step-length}
 use Rattle.laws.proofs.FitRuns.{run-fit, run-length}
-use Rattle.tape.specs.Files.{wordsOf, bytesOf, writeNumberOf, writeOf, FileRead}
+use Rattle.tape.specs.Files.{wordsOf, bytesOf, writeOf, FileRead}
 use Rattle.tape.proofs.Backs.{length-fits}
 use Rattle.tape.proofs.Numbers.{write-fits}
 use Rattle.tape.proofs.Bytes.{write-yes}

@@ -1,8 +1,8 @@
 -- What a 0 of the length checks says, and what a load then leaves.
-use Prim.Native.Nat.{ℕ, suc, _%_, _/_, _*_, _<_, _≤_}
+use Prim.Native.Nat.{ℕ, suc, _%_, _<_, _≤_}
 use mathlib.Core.Path.{_≡_, refl, sym, _∙_, ap}
 use mathlib.Core.Bool.{Bool, true, false}
-use mathlib.Core.List.{List, [], _++_, append-nil}
+use mathlib.Core.List.{List, _++_, append-nil}
 use native.Mathlib.Omega.{arith}
 use borrow.Author.Tests.{eq-eqb, ne-eqb, ltb-true, leb-true, eqb-true}
 use lib.Dec.{eqb, ltb, leb}

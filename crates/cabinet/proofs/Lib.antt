@@ -1,3 +1,4 @@
 pub mod Counts
 pub mod Sets
 pub mod Backs
+pub mod OneAnswer

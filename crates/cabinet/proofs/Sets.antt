@@ -10,7 +10,7 @@ use lib.Dec.{ltb, eqb}
 use lib.ListN.{length, getD}
 use Rattle.machine.specs.declared.outcome.Registers.{Registers}
 use Rattle.word.specs.Core.{wordsFit}
-use Rattle.tape.specs.Files.{wordsOf, readNumberOf, FileRead}
+use Rattle.tape.specs.Files.{wordsOf, FileRead}
 use Rattle.tape.proofs.Numbers.{whole-read}
 use Rattle.tape.proofs.Words.{words-length, read-yes}
 use Rattle.laws.proofs.Fit.{Word, Holds, Ranged as RangedSet}

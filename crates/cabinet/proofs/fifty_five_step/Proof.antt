@@ -1,60 +1,43 @@
+-- A set that was taken says that the words fit the room; the rest is step_in.
 use Rattle.cabinet.proofs.Backs.{words-most, part-length, part-room, step-came, step-refused}
-use mathlib.Core.Path.{refl, sym, ap, _∙_}
-use native.Mathlib.Omega.{arith}
+use mathlib.Core.Path.{sym, _∙_}
 use borrow.Author.Needs.{needs}
 use Rattle.cabinet.proofs.fifty_five_step.Statement.{statement}
 use Rattle.cabinet.proofs.fifty_five_step.Tie as tie
-use Rattle.cabinet.proofs.fifty_five_step.Reads as reads
-use Rattle.cabinet.proofs.fifty_five_step.Lts as lts
-use Rattle.cabinet.proofs.room.Reads as room-reads
-use Rattle.cabinet.proofs.rows.take.Reads as take-reads
-use Rattle.cabinet.proofs.turns.step_in.Reads as step-in-reads
 
--- src/lib.rt:40:11
 take-requires : tie.Need-take-requires
 take-requires c κs = search needs
 
--- src/lib.rt:41:20
 enum-known-g : tie.Need-enum-known-g
 enum-known-g c = search needs
 
--- src/lib.rt:42:29
 room-requires : tie.Need-room-requires
 room-requires c κs = search needs
 
--- src/lib.rt:43:21
 array-borrow-prefix-words : tie.Need-array-borrow-prefix-words
 array-borrow-prefix-words c = words-most (c .room .result) (c .before .before .before .before .before .before .before .before .args .core .now) (c .before .before .before .before .before .before .before .before .args .regs .now) (c .room .ensures) (sym (c .before .before .before .before .take .ensures) ∙ c .before .before .g .given .1)
 
--- src/lib.rt:43:21
 slice-aggregate-step-in : tie.Need-slice-aggregate-step-in
 slice-aggregate-step-in c = sym (part-length (c .before .room .result) (c .before .before .before .before .before .before .before .before .before .args .core .now) (c .before .before .before .before .before .before .before .before .before .args .regs .now) (c .before .room .ensures) (sym (c .before .before .before .before .before .take .ensures) ∙ c .before .before .before .g .given .1))
 
--- src/lib.rt:43:13
 step-in-requires : tie.Need-step-in-requires
 step-in-requires c κs = part-room _ _ _ (c .before .before .before .room .ensures) (sym (c .before .before .before .before .before .before .before .take .ensures) ∙ c .before .before .before .before .before .g .given .1)
 
--- src/lib.rt:45:24
 enum-known-number : tie.Need-enum-known-number
 enum-known-number c = search needs
 
--- src/lib.rt:35:1
 same-length : tie.Need-same-length
 same-length c = search needs
 
--- src/lib.rt:35:1
 same-length-2 : tie.Need-same-length-2
 same-length-2 c = search needs
 
--- src/lib.rt:35:1
 returns : tie.Need-returns
 returns c = step-came _ _ _ (c .before .before .before .before .before .before .before .before .before .room .ensures) (sym (c .before .before .before .before .before .before .before .before .before .before .before .before .before .take .ensures) ∙ c .before .before .before .before .before .before .before .before .before .before .before .g .given .1) (c .before .before .before .before .before .step-in .ensures)
 
--- src/lib.rt:35:1
 same-length-3 : tie.Need-same-length-3
 same-length-3 c = search needs
 
--- src/lib.rt:35:1
 returns-2 : tie.Need-returns-2
 returns-2 c = step-refused _ _ (sym (c .before .before .before .take .ensures) ∙ c .before .number .given .1)
 

@@ -1,29 +1,23 @@
+-- Each way out is a row of coreNumberOf.
 use Rattle.cabinet.specs.Lengths.{coreNumberOf}
-use mathlib.Core.Path.{refl, sym, ap, _∙_}
-use native.Mathlib.Omega.{arith}
+use mathlib.Core.Path.{refl}
 use borrow.Author.Tests.{lt-ltb, le-ltb, le-leb, lt-leb, eq-eqb, ne-eqb}
-use Rattle.machine.proofs.Calculus.{known, isYes, isNo}
+use Rattle.machine.proofs.Calculus.{isYes, isNo}
 use Rattle.cabinet.proofs.lengths.core_number.Statement.{statement}
 use Rattle.cabinet.proofs.lengths.core_number.Tie as tie
-use Rattle.cabinet.proofs.lengths.core_number.Reads as reads
-use Rattle.cabinet.proofs.lengths.core_number.Lts as lts
 
--- src/lengths.rt:12:17
 returns : tie.Need-returns
 unfolding coreNumberOf
 returns c = isYes _ _ (eq-eqb _ _ (c .before .before .if1 .taken)) (isYes _ _ (lt-ltb _ _ (c .before .if2 .taken)) (isYes _ _ (le-leb _ _ (c .if3 .taken)) refl))
 
--- src/lengths.rt:15:9
 returns-2 : tie.Need-returns-2
 unfolding coreNumberOf
 returns-2 c = isYes _ _ (eq-eqb _ _ (c .before .before .if1 .taken)) (isYes _ _ (lt-ltb _ _ (c .before .if2 .taken)) (isNo _ _ (lt-leb _ _ (c .if3 .left)) refl))
 
--- src/lengths.rt:15:9
 returns-3 : tie.Need-returns-3
 unfolding coreNumberOf
 returns-3 c = isYes _ _ (eq-eqb _ _ (c .before .if1 .taken)) (isNo _ _ (le-ltb _ _ (c .if2 .left)) refl)
 
--- src/lengths.rt:6:1
 returns-4 : tie.Need-returns-4
 unfolding coreNumberOf
 returns-4 c = isNo _ _ (ne-eqb _ _ (c .if1 .left)) refl

@@ -1,79 +1,58 @@
+-- The text of setOf; each number is in the range of its register.
 use Rattle.cabinet.specs.Rows.{setOf}
-use mathlib.Core.Path.{refl, sym, ap, _∙_}
-use native.Mathlib.Omega.{arith}
-use borrow.Author.Tests.{lt-ltb, le-ltb, le-leb, lt-leb, eq-eqb, ne-eqb}
-use Rattle.machine.proofs.Calculus.{known, isYes, isNo}
+use mathlib.Core.Path.{refl}
 use borrow.Author.Needs.{needs}
 use Rattle.cabinet.proofs.rows.set_of.Statement.{statement}
 use Rattle.cabinet.proofs.rows.set_of.Tie as tie
-use Rattle.cabinet.proofs.rows.set_of.Reads as reads
-use Rattle.cabinet.proofs.rows.set_of.Lts as lts
 
--- src/rows.rt:35:12
 shared-slice-read-t3 : tie.Need-shared-slice-read-t3
 shared-slice-read-t3 c = search needs
 
--- src/rows.rt:36:16
 shared-slice-read-t5 : tie.Need-shared-slice-read-t5
 shared-slice-read-t5 c = search needs
 
--- src/rows.rt:37:12
 shared-slice-read-t8 : tie.Need-shared-slice-read-t8
 shared-slice-read-t8 c = search needs
 
--- src/rows.rt:38:16
 shared-slice-read-t10 : tie.Need-shared-slice-read-t10
 shared-slice-read-t10 c = search needs
 
--- src/rows.rt:39:12
 shared-slice-read-t13 : tie.Need-shared-slice-read-t13
 shared-slice-read-t13 c = search needs
 
--- src/rows.rt:39:12
 cast-t14 : tie.Need-cast-t14
 cast-t14 c = search needs
 
--- src/rows.rt:40:12
 shared-slice-read-t16 : tie.Need-shared-slice-read-t16
 shared-slice-read-t16 c = search needs
 
--- src/rows.rt:40:12
 cast-t17 : tie.Need-cast-t17
 cast-t17 c = search needs
 
--- src/rows.rt:41:12
 shared-slice-read-t19 : tie.Need-shared-slice-read-t19
 shared-slice-read-t19 c = search needs
 
--- src/rows.rt:41:12
 cast-t20 : tie.Need-cast-t20
 cast-t20 c = search needs
 
--- src/rows.rt:42:12
 shared-slice-read-t22 : tie.Need-shared-slice-read-t22
 shared-slice-read-t22 c = search needs
 
--- src/rows.rt:42:12
 cast-t23 : tie.Need-cast-t23
 cast-t23 c = search needs
 
--- src/rows.rt:43:12
 shared-slice-read-t25 : tie.Need-shared-slice-read-t25
 shared-slice-read-t25 c = search needs
 
--- src/rows.rt:43:12
 cast-t26 : tie.Need-cast-t26
 cast-t26 c = search needs
 
--- src/rows.rt:44:15
 shared-slice-read-t28 : tie.Need-shared-slice-read-t28
 shared-slice-read-t28 c = search needs
 
--- src/rows.rt:45:15
 shared-slice-read-t31 : tie.Need-shared-slice-read-t31
 shared-slice-read-t31 c = search needs
 
--- src/rows.rt:30:1
 returns : tie.Need-returns
 unfolding setOf
 returns c = refl

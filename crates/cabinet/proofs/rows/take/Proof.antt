@@ -1,65 +1,48 @@
+-- Each way out is a row of takenOf; the row is read whole, since it has six bytes a word.
 use Rattle.cabinet.specs.declared.rows.Taken.the-variants.{Set, Refused}
 use Rattle.cabinet.proofs.Sets.{row-read, row-ranged}
 use Rattle.cabinet.specs.Rows.{rowFits, setOf}
 use Rattle.cabinet.specs.Rows.{takenOf}
 use mathlib.Core.Path.{refl, sym, ap, _∙_}
-use native.Mathlib.Omega.{arith}
-use borrow.Author.Tests.{lt-ltb, le-ltb, le-leb, lt-leb, eq-eqb, ne-eqb}
-use Rattle.machine.proofs.Calculus.{known, isYes, isNo}
+use borrow.Author.Tests.{eq-eqb, ne-eqb}
+use Rattle.machine.proofs.Calculus.{isYes, isNo}
 use borrow.Author.Needs.{needs}
 use Rattle.cabinet.proofs.rows.take.Statement.{statement}
 use Rattle.cabinet.proofs.rows.take.Tie as tie
-use Rattle.cabinet.proofs.rows.take.Reads as reads
-use Rattle.cabinet.proofs.rows.take.Lts as lts
-use Rattle.cabinet.proofs.lengths.core_number.Reads as core-number-reads
-use Rattle.cabinet.proofs.rows.row_fits.Reads as row-fits-reads
-use Rattle.cabinet.proofs.rows.set_of.Reads as set-of-reads
-use Rattle.tape.proofs.read_file.Reads as read-file-reads
 
--- src/rows.rt:53:9
 core-number-requires : tie.Need-core-number-requires
 core-number-requires c κs = search needs
 
--- src/rows.rt:57:35
 slice-aggregate-read-file : tie.Need-slice-aggregate-read-file
 slice-aggregate-read-file c = search needs
 
--- src/rows.rt:57:13
 read-file-requires : tie.Need-read-file-requires
 read-file-requires c κs = search needs
 
--- src/rows.rt:58:25
 slice-aggregate-row-fits : tie.Need-slice-aggregate-row-fits
 slice-aggregate-row-fits c = search needs
 
--- src/rows.rt:58:16
 row-fits-requires : tie.Need-row-fits-requires
 row-fits-requires c κs = search needs
 
--- src/rows.rt:59:42
 slice-aggregate-set-of : tie.Need-slice-aggregate-set-of
 slice-aggregate-set-of c = search needs
 
--- src/rows.rt:59:35
 set-of-requires : tie.Need-set-of-requires
 set-of-requires c κs = row-ranged _ _ (row-read _ _ refl (c .before .before .before .before .before .before .before .if2 .taken) (c .before .before .before .before .before .read-file .ensures)) (sym (c .before .before .row-fits .ensures) ∙ c .before .if3 .taken)
 
--- src/rows.rt:59:17
 returns : tie.Need-returns
 unfolding takenOf
 returns c = isYes _ _ (eq-eqb _ _ (sym (c .before .before .before .before .before .before .before .before .before .before .core-number .ensures) ∙ c .before .before .before .before .before .before .before .before .before .if1 .taken)) (isYes _ _ (eq-eqb _ _ (c .before .before .before .before .before .before .before .before .if2 .taken)) (isYes _ _ (ap rowFits (sym (row-read _ _ refl (c .before .before .before .before .before .before .before .before .if2 .taken) (c .before .before .before .before .before .before .read-file .ensures))) ∙ sym (c .before .before .before .row-fits .ensures) ∙ c .before .before .if3 .taken) (ap Set (c .set-of .ensures ∙ ap setOf (row-read _ _ refl (c .before .before .before .before .before .before .before .before .if2 .taken) (c .before .before .before .before .before .before .read-file .ensures))))))
 
--- src/rows.rt:62:9
 returns-2 : tie.Need-returns-2
 unfolding takenOf
 returns-2 c = isYes _ _ (eq-eqb _ _ (sym (c .before .before .before .before .before .before .before .before .core-number .ensures) ∙ c .before .before .before .before .before .before .before .if1 .taken)) (isYes _ _ (eq-eqb _ _ (c .before .before .before .before .before .before .if2 .taken)) (isNo _ _ (ap rowFits (sym (row-read _ _ refl (c .before .before .before .before .before .before .if2 .taken) (c .before .before .before .before .read-file .ensures))) ∙ sym (c .before .row-fits .ensures) ∙ c .if3 .left) refl))
 
--- src/rows.rt:62:9
 returns-3 : tie.Need-returns-3
 unfolding takenOf
 returns-3 c = isYes _ _ (eq-eqb _ _ (sym (c .before .before .core-number .ensures) ∙ c .before .if1 .taken)) (isNo _ _ (ne-eqb _ _ (c .if2 .left)) refl)
 
--- src/rows.rt:50:1
 returns-4 : tie.Need-returns-4
 unfolding takenOf
 returns-4 c = isNo _ _ (ne-eqb _ _ (λ z. c .if1 .left (c .before .core-number .ensures ∙ z))) (ap Refused (c .before .core-number .ensures))

@@ -1,0 +1,15 @@
+-- Any two permitted answers of a plug are equal, and so are the bytes that they leave.
+use Prim.Native.Nat.{ℕ}
+use mathlib.Core.Path.{_≡_}
+use mathlib.Core.List.{List}
+use Rattle.word.proofs.Sole.{sole}
+use Rattle.cabinet.specs.Crossings.{Loaded, Crossed, Counted, stepBytesOf, runBytesOf}
+
+pub load-sole : (file old new new′ : List ℕ) (r r′ : ℕ) → Loaded file old new r → Loaded file old new′ r′ → (r ≡ r′) × (new ≡ new′)
+load-sole file old new new′ r r′ p q = (sole (p .number) (q .number), sole (p .core) (q .core))
+
+pub step-sole : (core regs : List ℕ) {x x′ : Crossed} → x ≡ stepBytesOf core regs → x′ ≡ stepBytesOf core regs → x ≡ x′
+step-sole core regs p q = sole p q
+
+pub run-sole : (core regs : List ℕ) (budget before : ℕ) {x x′ : Counted} → x ≡ runBytesOf core regs budget before → x′ ≡ runBytesOf core regs budget before → x ≡ x′
+run-sole core regs budget before p q = sole p q
