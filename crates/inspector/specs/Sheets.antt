@@ -24,7 +24,7 @@ entryAt sheet i =
 abbrev pub entries : List ℕ → ℕ
 entries sheet = length sheet / 6
 
--- "Record 0: kind 1, code words. Record 1: kind 2, starting S and room d. Record 2: kind 5, R and table length."
+-- "Record 0: kind 1, code words ..", "Record 1: kind 2, starting S and room d ..", "Record 2: kind 5, R and table length .."
 abbrev pub codeOf : List ℕ → ℕ
 codeOf sheet = entryAt sheet 0 .first
 
@@ -63,7 +63,7 @@ abbrev pub floorOf : List ℕ → ℕ → ℕ
 floorOf sheet zero = 0
 floorOf sheet (suc j) = entryAt sheet (3 + j) .first + entryAt sheet (3 + j) .count
 
--- "First of a place is at most 32,767; R at most 511."
+-- "count 1 to 1,024", "room d, 0 to 1,023", "table length, 64 to 1,024"; "First of a place is at most 32,767; R at most 511."
 unfoldable pub recordGood : List ℕ → ℕ → Bool
 recordGood sheet zero = ranged 1 32767 1 1024 (entryAt sheet 0)
 recordGood sheet (suc zero) = ranged 2 32767 0 1023 (entryAt sheet 1)

@@ -11,7 +11,7 @@ flagOf w = bit w 0
 abbrev pub bodyOf : ℕ → ℕ
 bodyOf w = field w 1 47
 
--- "Operand: flag off, bit 1 sign, bits 2-8 exponent, 9-47 magnitude."
+-- "Operand: flag off, bit 1 sign, bits 2-8 exponent .., 9-47 magnitude."
 abbrev pub signOf : ℕ → Bool
 signOf w = bit w 1
 
