@@ -1,4 +1,7 @@
 pub mod Counts
 pub mod Sets
 pub mod Backs
+pub mod Rooms
+pub mod Stretches
+pub mod Verdicts
 pub mod OneAnswer

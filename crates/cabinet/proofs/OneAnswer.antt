@@ -3,7 +3,10 @@ use Prim.Native.Nat.{ℕ}
 use mathlib.Core.Path.{_≡_}
 use mathlib.Core.List.{List}
 use Rattle.word.proofs.Sole.{sole}
+use Rattle.inspector.specs.declared.verdict.Verdict.{Verdict}
 use Rattle.cabinet.specs.Crossings.{Loaded, Crossed, Counted, stepBytesOf, runBytesOf}
+use Rattle.cabinet.specs.Arrays.{Handed, handedBytesOf}
+use Rattle.cabinet.specs.Inspections.{inspectBytesOf}
 
 pub load-sole : (file old new new′ : List ℕ) (r r′ : ℕ) → Loaded file old new r → Loaded file old new′ r′ → (r ≡ r′) × (new ≡ new′)
 load-sole file old new new′ r r′ p q = (sole (p .number) (q .number), sole (p .core) (q .core))
@@ -13,3 +16,9 @@ step-sole core regs p q = sole p q
 
 pub run-sole : (core regs : List ℕ) (budget before : ℕ) {x x′ : Counted} → x ≡ runBytesOf core regs budget before → x′ ≡ runBytesOf core regs budget before → x ≡ x′
 run-sole core regs budget before p q = sole p q
+
+pub hand-out-sole : (core : List ℕ) (r cell : ℕ) {x x′ : Handed} → x ≡ handedBytesOf core r cell → x′ ≡ handedBytesOf core r cell → x ≡ x′
+hand-out-sole core r cell p q = sole p q
+
+pub inspect-sole : (core sheet : List ℕ) {v v′ : Verdict} → v ≡ inspectBytesOf core sheet → v′ ≡ inspectBytesOf core sheet → v ≡ v′
+inspect-sole core sheet p q = sole p q

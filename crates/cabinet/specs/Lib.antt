@@ -1,3 +1,6 @@
 pub mod Lengths
 pub mod Rows
 pub mod Crossings
+pub mod Rooms
+pub mod Arrays
+pub mod Inspections

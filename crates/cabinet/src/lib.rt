@@ -1,8 +1,13 @@
 // The cabinet's plugs: what a host program in C may call, over numbers and six-byte words. include/fifty_five.h tells it to C.
+mod arrays;
+mod inspections;
 mod lengths;
 mod rows;
 mod turns;
 
+use crate::arrays::array_in;
+use crate::inspections::inspect_in;
+use crate::lengths::core_number;
 use crate::lengths::load_number;
 use crate::rows::Taken;
 use crate::rows::take;
@@ -11,6 +16,9 @@ use crate::turns::step_in;
 ghost use mathlib.Core.Path.{_≡_};
 ghost use lib.ListN.{length};
 ghost use Rattle.cabinet.specs.Crossings.{Loaded, crossed, counted, stepBytesOf, runBytesOf};
+ghost use Rattle.cabinet.specs.Arrays.{handed, handedBytesOf};
+ghost use Rattle.inspector.specs.Verdicts.{given};
+ghost use Rattle.cabinet.specs.Inspections.{inspectBytesOf};
 
 // Room for a core at its largest, where its words stand while the machine works on them: there is no heap.
 fn room() -> [u64; 32768]
@@ -64,4 +72,41 @@ pub extern "C" fn fifty_five_run(
         }
         Taken::Refused(number) => number,
     }
+}
+
+// Where the words of an array cell stand: the first of them and how many. The checks are 4, 1, 3, 36 in this order, each with 0 and 0.
+#[no_mangle]
+pub extern "C" fn fifty_five_hand_out(
+    core: &[u8],
+    r: u64,
+    cell: u64,
+    start: &mut u64,
+    count: &mut u64,
+) -> u64
+    ensures { λ n. ⌜ handed n (now (start .exit)) (now (count .exit)) ≡ handedBytesOf (now (core .entry)) r cell ⌝ }
+{
+    let n = core.len();
+    let number = core_number(n);
+    if number == 0 {
+        let mut words = room();
+        return array_in(&mut words[..n / 6], core, r, cell, start, count);
+    }
+    *start = 0;
+    *count = 0;
+    number
+}
+
+// The inspector's number and place. The checks of the core are 4, 1 in this order, at place 0.
+#[no_mangle]
+pub extern "C" fn fifty_five_inspect(core: &[u8], sheet: &[u8], place: &mut u64) -> u64
+    ensures { λ n. ⌜ given n (now (place .exit)) ≡ inspectBytesOf (now (core .entry)) (now (sheet .entry)) ⌝ }
+{
+    let n = core.len();
+    let number = core_number(n);
+    if number == 0 {
+        let mut words = room();
+        return inspect_in(&mut words[..n / 6], core, sheet, place);
+    }
+    *place = 0;
+    number
 }
