@@ -4,6 +4,7 @@ use mathlib.Core.Path.{_≡_}
 use mathlib.Core.List.{List}
 use Rattle.word.proofs.Sole.{sole}
 use Rattle.cabinet.specs.Crossings.{Loaded, Crossed, Counted, stepBytesOf, runBytesOf}
+use Rattle.cabinet.specs.Posts.{PostBytes, PostsBytes}
 
 pub load-sole : (file old new new′ : List ℕ) (r r′ : ℕ) → Loaded file old new r → Loaded file old new′ r′ → (r ≡ r′) × (new ≡ new′)
 load-sole file old new new′ r r′ p q = (sole (p .number) (q .number), sole (p .core) (q .core))
@@ -13,3 +14,6 @@ step-sole core regs p q = sole p q
 
 pub run-sole : (core regs : List ℕ) (budget before : ℕ) {x x′ : Counted} → x ≡ runBytesOf core regs budget before → x′ ≡ runBytesOf core regs budget before → x ≡ x′
 run-sole core regs budget before p q = sole p q
+
+pub post-sole : (core sheet : List ℕ) (budget : ℕ) (regs : List ℕ) (x x′ : PostBytes) → PostsBytes core sheet budget regs x → PostsBytes core sheet budget regs x′ → x ≡ x′
+post-sole core sheet budget regs x x′ p q = sole (p .same) (q .same)

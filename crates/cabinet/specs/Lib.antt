@@ -1,3 +1,4 @@
 pub mod Lengths
 pub mod Rows
 pub mod Crossings
+pub mod Posts

@@ -1,9 +1,12 @@
 // The cabinet's plugs: what a host program in C may call, over numbers and six-byte words. include/fifty_five.h tells it to C.
 mod lengths;
+mod posts;
 mod rows;
 mod turns;
 
 use crate::lengths::load_number;
+use crate::posts::post_in;
+use crate::posts::post_number;
 use crate::rows::Taken;
 use crate::rows::take;
 use crate::turns::run_in;
@@ -11,6 +14,7 @@ use crate::turns::step_in;
 ghost use mathlib.Core.Path.{_≡_};
 ghost use lib.ListN.{length};
 ghost use Rattle.cabinet.specs.Crossings.{Loaded, crossed, counted, stepBytesOf, runBytesOf};
+ghost use Rattle.cabinet.specs.Posts.{postBytes, PostsBytes};
 
 // Room for a core at its largest, where its words stand while the machine works on them: there is no heap.
 fn room() -> [u64; 32768]
@@ -64,4 +68,38 @@ pub extern "C" fn fifty_five_run(
         }
         Taken::Refused(number) => number,
     }
+}
+
+// Inspects a segment and, where it passed, runs it from the sheet's start. The checks are 4, 1, 3 in this order; then the inspector's, then 5.
+#[no_mangle]
+pub extern "C" fn fifty_five_post(
+    core: &mut [u8],
+    sheet: &[u8],
+    budget: u64,
+    regs: &mut [u8],
+    place: &mut u64,
+    stop: &mut u64,
+    completed: &mut u64,
+) -> u64
+    ensures { λ r. ⌜ PostsBytes (now (core .entry)) (now (sheet .entry)) budget (now (regs .entry)) (postBytes r (now (core .exit)) (now (regs .exit)) (now (place .exit)) (now (stop .exit)) (now (completed .exit))) ⌝ }
+{
+    let n = core.len();
+    let number = post_number(n, regs.len());
+    if number == 0 {
+        let mut words = room();
+        return post_in(
+            &mut words[..n / 6],
+            core,
+            sheet,
+            budget,
+            regs,
+            place,
+            stop,
+            completed,
+        );
+    }
+    *place = 0;
+    *stop = 0;
+    *completed = 0;
+    number
 }
