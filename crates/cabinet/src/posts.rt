@@ -43,7 +43,6 @@ pub fn post_in(
     *completed = a.completed;
     if a.number == 0 {
         hand_back(&words[..], 0, a.regs, core, regs);
-        return 0;
     }
     a.number
 }
