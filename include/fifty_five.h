@@ -11,7 +11,7 @@
  * one thing that is not checked. Any lengths and any bytes are taken. A call needs 300 KB of
  * stack and no heap.
  *
- * Answers. Each call answers one of the numbers below. 1 to 5 refuse: nothing was written.
+ * Answers. Each call answers one of the numbers below. 1 to 5 refuse: no buffer was written.
  * The checks are made in the order 4, 1, 3, 5; the first that fails is the answer.
  * (Paper 01's 2, a word at or above 2^48, cannot come: six bytes say no such word.)
  */
@@ -77,6 +77,21 @@ uint64_t fifty_five_step(uint8_t *core, size_t core_length, uint8_t *registers, 
  */
 uint64_t fifty_five_run(uint8_t *core, size_t core_length, uint8_t *registers, size_t registers_length,
                         uint64_t budget, uint64_t *completed);
+
+/*
+ * Inspects a segment by its sheet and, where it passed, runs it from the sheet's start.
+ * Answers 4, 1, 3 (registers not of 66 bytes), the inspector's 30 to 35, 5 in this order, or 0:
+ * it was run. What the 66 bytes held before is not looked at.
+ * *place is the inspector's place, *stop the number that the run gave, 0 (the budget is spent),
+ * 15, 17, 20 or 21, *completed the count of completed syllables, COM included. All three are
+ * written by every call, 0 where there is none.
+ * By 0, core and registers are those after the run: outside stack words, number cells and array
+ * words of the sheet the core is as it was. Any other number leaves core and registers as they
+ * were.
+ */
+uint64_t fifty_five_post(uint8_t *core, size_t core_length, const uint8_t *sheet, size_t sheet_length,
+                         uint64_t budget, uint8_t *registers, size_t registers_length, uint64_t *place,
+                         uint64_t *stop, uint64_t *completed);
 
 #ifdef __cplusplus
 }

@@ -67,7 +67,7 @@ run-accepted core g budget f = by (eqb (refusalOf core g) 0) refl f
 
 -- ---- what is written
 
-fit-parts : (core : List ℕ) (g : Registers) → refusalOf core g ≡ 0 → (lengthFits core ≡ true) × (wordsFit core ≡ true)
+pub fit-parts : (core : List ℕ) (g : Registers) → refusalOf core g ≡ 0 → (lengthFits core ≡ true) × (wordsFit core ≡ true)
 unfolding refusalOf if_then_else_
 fit-parts core g e = by (lengthFits core) (wordsFit core) (registersFit g) e
   where
@@ -88,7 +88,7 @@ row-written words regs g e l =
     sym (write-yes (rowOf g) regs (sym (write-fits (rowOf g) (length regs) (length-fits (rowOf g) (omega arith) (omega arith)) (row-words g (f .regs)) (omega arith))) refl)
 
 -- Either nothing, or the state of a number that does not refuse.
-left-back : (n : ℕ) (words core regs : List ℕ) (g : Registers) → (refuses n ≡ false → (refusalOf words g ≡ 0) × (length core ≡ 6 * length words)) → length regs ≡ 66
+pub left-back : (n : ℕ) (words core regs : List ℕ) (g : Registers) → (refuses n ≡ false → (refusalOf words g ≡ 0) × (length core ≡ 6 * length words)) → length regs ≡ 66
     → leftOf n words g core regs ≡ stepBackOf (record { number = n; core = words; regs = g }) core regs
 unfolding leftOf stepBackOf if_then_else_
 left-back n words core regs g h r = by (refuses n) h
@@ -145,46 +145,55 @@ run-back words words′ core core′ regs regs′ g a budget old new l r e h c =
 
 -- ---- from bytes and back
 
-module _ (old core regs : List ℕ) (g : Registers) (room : Room old core regs) {words : List ℕ} {n : ℕ} (read : FileRead core old words n) where
-  read-words : words ≡ wordsOf (length old) core
+module _ (old core regs : List ℕ) (room : Room old core regs) {words : List ℕ} {n : ℕ} (read : FileRead core old words n) where
+  pub read-words : words ≡ wordsOf (length old) core
   read-words = read-exact core old (room .some) (omega (arith, room .most)) (room .exact) read
 
-  read-length : length core ≡ 6 * length words
+  pub read-length : length core ≡ 6 * length words
   read-length = room .exact ∙ ap (λ (k : ℕ). 6 * k) (sym (ap length read-words ∙ words-length (length old) core))
 
+module _ (old core regs : List ℕ) (g : Registers) (room : Room old core regs) {words : List ℕ} {n : ℕ} (read : FileRead core old words n) where
   pub step-crossed : (words′ : List ℕ) {core′ regs′ : List ℕ} (a : Answer) → answered a words′ ≡ stepOf words g
       → crossed (a .number) core′ regs′ ≡ leftOf (a .number) words′ (a .regs) core regs
       → crossed (a .number) core′ regs′ ≡ stepBackOf (stepOf (wordsOf (length old) core) g) core regs
   step-crossed words′ {core′} {regs′} a e h =
-      step-back words words′ core core′ regs regs′ g a read-length (room .row) e h ∙ ap (λ (ws : List ℕ). stepBackOf (stepOf ws g) core regs) read-words
+      step-back words words′ core core′ regs regs′ g a (read-length old core regs room read) (room .row) e h ∙ ap (λ (ws : List ℕ). stepBackOf (stepOf ws g) core regs) (read-words old core regs room read)
 
   pub run-crossed : (words′ : List ℕ) {core′ regs′ : List ℕ} (a : Ran) (budget before : ℕ) {after : ℕ} → ranOf a words′ ≡ runOf words g budget
       → crossed (a .stop) core′ regs′ ≡ leftOf (a .stop) words′ (a .regs) core regs → after ≡ countOf (a .stop) (a .completed) before
       → counted (a .stop) core′ regs′ after ≡ runBackOf (runOf (wordsOf (length old) core) g budget) core regs before
   run-crossed words′ {core′} {regs′} a budget before {after} e h c =
-      run-back words words′ core core′ regs regs′ g a budget before after read-length (room .row) e h c
-      ∙ ap (λ (ws : List ℕ). runBackOf (runOf ws g budget) core regs before) read-words
+      run-back words words′ core core′ regs regs′ g a budget before after (read-length old core regs room read) (room .row) e h c
+      ∙ ap (λ (ws : List ℕ). runBackOf (runOf ws g budget) core regs before) (read-words old core regs room read)
 
--- ---- room of 32,768 words, of which a taken core fills the first
+-- ---- room of 32,768 words, of which a core fills the first
 
-module _ (all core regs : List ℕ) (full : length all ≡ 32768) {g : Registers} (taken : takenOf (length core) regs ≡ Set g) where
-  pub words-most : length core / 6 ≤ length all
-  words-most =
-      let w : Whole (length core) = taken-good (length core) regs taken .core in
+module _ (all core : List ℕ) (full : length all ≡ 32768) (w : Whole (length core)) where
+  pub whole-most : length core / 6 ≤ length all
+  whole-most =
       let most : length core ≤ 196608 = w .most in
       omega arith
 
-  pub part-length : length (take (length core / 6) all) ≡ length core / 6
-  part-length = length-take-le (length core / 6) all words-most
+  pub whole-length : length (take (length core / 6) all) ≡ length core / 6
+  whole-length = length-take-le (length core / 6) all whole-most
 
-  pub part-room : Room (take (length core / 6) all) core regs
-  part-room =
-      let w : Whole (length core) = taken-good (length core) regs taken .core in
-      let l : length (take (length core / 6) all) ≡ length core / 6 = part-length in
+  pub whole-room : (regs : List ℕ) → length regs ≡ 66 → Room (take (length core / 6) all) core regs
+  whole-room regs row =
+      let l : length (take (length core / 6) all) ≡ length core / 6 = whole-length in
       let six : length core % 6 ≡ 0 = w .six in
       let some : 0 < length core = w .some in
       let most : length core ≤ 196608 = w .most in
-      record { some = omega arith; most = omega arith; exact = omega arith; row = taken-good (length core) regs taken .row }
+      record { some = omega arith; most = omega arith; exact = omega arith; row = row }
+
+module _ (all core regs : List ℕ) (full : length all ≡ 32768) {g : Registers} (taken : takenOf (length core) regs ≡ Set g) where
+  pub words-most : length core / 6 ≤ length all
+  words-most = whole-most all core full (taken-good (length core) regs taken .core)
+
+  pub part-length : length (take (length core / 6) all) ≡ length core / 6
+  part-length = whole-length all core full (taken-good (length core) regs taken .core)
+
+  pub part-room : Room (take (length core / 6) all) core regs
+  part-room = whole-room all core full (taken-good (length core) regs taken .core) regs (taken-good (length core) regs taken .row)
 
   pub step-came : {x : Crossed} → x ≡ stepBackOf (stepOf (wordsOf (length (take (length core / 6) all)) core) g) core regs → x ≡ stepBytesOf core regs
   unfolding stepBytesOf stepTakenOf

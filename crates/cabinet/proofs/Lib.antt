@@ -4,4 +4,5 @@ pub mod Backs
 pub mod Rooms
 pub mod Stretches
 pub mod Verdicts
+pub mod Postings
 pub mod OneAnswer

@@ -7,6 +7,7 @@ use Rattle.inspector.specs.declared.verdict.Verdict.{Verdict}
 use Rattle.cabinet.specs.Crossings.{Loaded, Crossed, Counted, stepBytesOf, runBytesOf}
 use Rattle.cabinet.specs.Arrays.{Handed, handedBytesOf}
 use Rattle.cabinet.specs.Inspections.{inspectBytesOf}
+use Rattle.cabinet.specs.Posts.{PostBytes, PostsBytes}
 
 pub load-sole : (file old new new′ : List ℕ) (r r′ : ℕ) → Loaded file old new r → Loaded file old new′ r′ → (r ≡ r′) × (new ≡ new′)
 load-sole file old new new′ r r′ p q = (sole (p .number) (q .number), sole (p .core) (q .core))
@@ -22,3 +23,6 @@ hand-out-sole core r cell p q = sole p q
 
 pub inspect-sole : (core sheet : List ℕ) {v v′ : Verdict} → v ≡ inspectBytesOf core sheet → v′ ≡ inspectBytesOf core sheet → v ≡ v′
 inspect-sole core sheet p q = sole p q
+
+pub post-sole : (core sheet : List ℕ) (budget : ℕ) (regs : List ℕ) (x x′ : PostBytes) → PostsBytes core sheet budget regs x → PostsBytes core sheet budget regs x′ → x ≡ x′
+post-sole core sheet budget regs x x′ p q = sole (p .same) (q .same)

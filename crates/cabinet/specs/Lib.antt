@@ -4,3 +4,4 @@ pub mod Crossings
 pub mod Rooms
 pub mod Arrays
 pub mod Inspections
+pub mod Posts

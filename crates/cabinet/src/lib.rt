@@ -2,6 +2,7 @@
 mod arrays;
 mod inspections;
 mod lengths;
+mod posts;
 mod rows;
 mod turns;
 
@@ -9,6 +10,8 @@ use crate::arrays::array_in;
 use crate::inspections::inspect_in;
 use crate::lengths::core_number;
 use crate::lengths::load_number;
+use crate::posts::post_in;
+use crate::posts::post_number;
 use crate::rows::Taken;
 use crate::rows::take;
 use crate::turns::run_in;
@@ -19,6 +22,7 @@ ghost use Rattle.cabinet.specs.Crossings.{Loaded, crossed, counted, step
 ghost use Rattle.cabinet.specs.Arrays.{handed, handedBytesOf};
 ghost use Rattle.inspector.specs.Verdicts.{given};
 ghost use Rattle.cabinet.specs.Inspections.{inspectBytesOf};
+ghost use Rattle.cabinet.specs.Posts.{postBytes, PostsBytes};
 
 // Room for a core at its largest, where its words stand while the machine works on them: there is no heap.
 fn room() -> [u64; 32768]
@@ -108,5 +112,39 @@ pub extern "C" fn fifty_five_inspect(core: &[u8], sheet: &[u8], place: &mut u64)
         return inspect_in(&mut words[..n / 6], core, sheet, place);
     }
     *place = 0;
+    number
+}
+
+// Inspects a segment and, where it passed, runs it from the sheet's start. The checks are 4, 1, 3 in this order; then the inspector's, then 5.
+#[no_mangle]
+pub extern "C" fn fifty_five_post(
+    core: &mut [u8],
+    sheet: &[u8],
+    budget: u64,
+    regs: &mut [u8],
+    place: &mut u64,
+    stop: &mut u64,
+    completed: &mut u64,
+) -> u64
+    ensures { λ r. ⌜ PostsBytes (now (core .entry)) (now (sheet .entry)) budget (now (regs .entry)) (postBytes r (now (core .exit)) (now (regs .exit)) (now (place .exit)) (now (stop .exit)) (now (completed .exit))) ⌝ }
+{
+    let n = core.len();
+    let number = post_number(n, regs.len());
+    if number == 0 {
+        let mut words = room();
+        return post_in(
+            &mut words[..n / 6],
+            core,
+            sheet,
+            budget,
+            regs,
+            place,
+            stop,
+            completed,
+        );
+    }
+    *place = 0;
+    *stop = 0;
+    *completed = 0;
     number
 }

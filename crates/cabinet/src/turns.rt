@@ -16,7 +16,7 @@ fn refused(number: u64) -> bool
 }
 
 // Writes the core and the set over their bytes, or nothing where the number refuses.
-fn hand_back(words: &[u64], number: u64, g: Registers, core: &mut [u8], regs: &mut [u8])
+pub fn hand_back(words: &[u64], number: u64, g: Registers, core: &mut [u8], regs: &mut [u8])
     ensures { λ _. ⌜ crossed number (now (core .exit)) (now (regs .exit)) ≡ leftOf number (now (words .entry)) g (now (core .entry)) (now (regs .entry)) ⌝ }
 {
     if refused(number) {

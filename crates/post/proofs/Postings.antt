@@ -5,7 +5,7 @@ use mathlib.Core.Logic.{_≢_}
 use mathlib.Core.Bool.{Bool, true, false, not, true≢false}
 use mathlib.Core.List.{List}
 use native.Mathlib.Omega.{arith}
-use borrow.Author.Tests.{eq-eqb, ne-eqb, eqb-true, le-leb, lt-leb}
+use borrow.Author.Tests.{eq-eqb, ne-eqb, eqb-true, le-leb, lt-leb, leb-true}
 use lib.Dec.{eqb, leb}
 use Rattle.machine.specs.declared.outcome.Registers.{Registers}
 use Rattle.machine.specs.Outcomes.{if_then_else_}
@@ -19,6 +19,7 @@ use Rattle.inspector.specs.Scan.{breaksAt}
 use Rattle.inspector.specs.Targets.{missesTarget}
 use Rattle.inspector.specs.Verdicts.{Found, at, nowhere, lowest, given, blamed, refused, verdictOf}
 use Rattle.word.specs.Core.{lengthFits, wordsFit}
+use Rattle.laws.proofs.FitRuns.{run-fit}
 use Rattle.demands.specs.Stays.{startOf}
 use Rattle.demands.specs.Leaves.{Leaves}
 use Rattle.demands.proofs.Checked.{run-leaves, start-passes}
@@ -100,3 +101,24 @@ module _ (core sheet : List ℕ) (budget : ℕ) {v : Verdict} (e : v ≡ verdict
 pub starts : (core sheet : List ℕ) {c s r : ℕ} → c ≡ codeOf sheet → s ≡ sOf sheet → r ≡ rOf sheet
     → record { a = 0; afull = false; b = 0; bfull = false; s = s; f = 0; c = c; r = r; l = 0; salf = false; msff = false } ≡ startOf core sheet .regs
 starts core sheet p q t = rw (p, q, t)
+
+-- ---- a segment that was run leaves a state that passes the checks 1, 2 and 3
+
+fit : (core sheet : List ℕ) (budget : ℕ) (b : Bool) (v : Verdict) → (b ≡ true → verdictOf core sheet ≡ given 0 0) → (b ≡ false → v .number ≢ 0)
+    → judged b v core sheet budget .number ≡ 0 → refusalOf (judged b v core sheet budget .core) (judged b v core sheet budget .regs) ≡ 0
+fit core sheet budget true v p q = cut (leb budget 1000000) refl
+  where
+    cut : (d : Bool) → leb budget 1000000 ≡ d → within d core sheet budget .number ≡ 0 → refusalOf (within d core sheet budget .core) (within d core sheet budget .regs) ≡ 0
+    cut true e z =
+        let number : verdictOf core sheet .number ≡ 0 = ap (λ (x : Verdict). x .number) (p refl) in
+        let same : runOf core (startOf core sheet .regs) budget ≡ runFrom budget (startOf core sheet) = run-start core sheet budget refl number (leb-true budget 1000000 e) in
+        ap (λ (r : Run). refusalOf (r .core) (r .regs)) (sym same) ∙ run-fit core (startOf core sheet .regs) budget (start-passes core sheet (p refl))
+    cut false e z = absurd (omega arith)
+fit core sheet budget false v p q = λ z. absurd (q refl z)
+
+pub post-fit : (core sheet : List ℕ) (budget : ℕ) → postOf core sheet budget .number ≡ 0 → refusalOf (postOf core sheet budget .core) (postOf core sheet budget .regs) ≡ 0
+unfolding postOf
+post-fit core sheet budget =
+    fit core sheet budget (eqb (verdictOf core sheet .number) 0) (verdictOf core sheet)
+    (λ t. passes core sheet (eqb-true (verdictOf core sheet .number) 0 t))
+    (λ t e. true≢false (sym (eq-eqb (verdictOf core sheet .number) 0 e) ∙ t))
