@@ -1,7 +1,4 @@
 -- Demand 1 holds.
-use Prim.Native.Nat.{ℕ}
-use mathlib.Core.Path.{sym}
-use mathlib.Core.List.{List}
 use borrow.Author.Tests.{eq-eqb, ne-eqb, lt-leb}
 use lib.ListN.{length}
 use Rattle.machine.specs.Outcomes.{if_then_else_}

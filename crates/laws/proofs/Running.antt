@@ -55,7 +55,7 @@ unfolding runOf runFrom if_then_else_
 run-none core g e = rw (eq-eqb (refusalOf core g) 0 e)
 
 -- Where the checks pass, a run is the steps from its state, and a step is one of them.
-passed-run : (core : List ℕ) (g : Registers) (budget : ℕ) → refusalOf core g ≡ 0 → budget ≤ 1000000 → runOf core g budget ≡ runFrom budget (stateOf core g)
+pub passed-run : (core : List ℕ) (g : Registers) (budget : ℕ) → refusalOf core g ≡ 0 → budget ≤ 1000000 → runOf core g budget ≡ runFrom budget (stateOf core g)
 unfolding runOf if_then_else_
 passed-run core g budget e h = rw (eq-eqb (refusalOf core g) 0 e, le-leb budget 1000000 h)
 
