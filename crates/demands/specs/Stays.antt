@@ -76,13 +76,13 @@ Allowed Unbuilt = ⊥
 Allowed Unwhole = Unit {0}
 Allowed ZeroDivisor = Unit {0}
 
--- A step's core after it and before: as long, the same outside what the sheet names, number cells and array words plain.
+-- The core after a step beside the core before it: as long, the same words outside what the sheet names, number cells and array words plain.
 pub record Writes (core sheet after before : List ℕ) : Type 0 where
   pub size : length after ≡ length before
   pub only : SameOutside core sheet after before
   pub plain : Plain core sheet after
 
--- The step about to be made goes on or communicates, writing only so, or stops for one of the allowed causes.
+-- The step about to be made goes on or communicates, writing only so, or stops for one of the allowed causes, which leaves all as it was (demand 1).
 abbrev pub Next : List ℕ → List ℕ → State → Ended → Type 0
 Next core sheet u (next v) = Writes core sheet (v .core) (u .core)
 Next core sheet u (communicated v) = Writes core sheet (v .core) (u .core)
