@@ -1,4 +1,4 @@
--- What "stays inside its sheet" means of a state that a segment reaches; demand 3 (Demand3.antt) says it of every passed segment.
+-- What it is that a segment stays inside its sheet, said of a state that it reaches; demand 3 (Demand3.antt) claims it of every passed segment.
 use Prim.Native.Nat.{ℕ, zero, suc, _+_, _*_, _<_, _≤_}
 use mathlib.Core.Path.{_≡_}
 use mathlib.Core.Logic.{_⊎_}
@@ -65,7 +65,7 @@ pub record Place (core sheet : List ℕ) (w : ℕ) : Type 0 where
 abbrev pub Stacked : List ℕ → List ℕ → ℕ → Type 0
 Stacked core sheet w = (flagOf w ≡ false) ⊎ Place core sheet w
 
--- The causes of the demand's sentence, "it stops only for 15, 17, 20 or 21"; 17 is COM's, which completes.
+-- Demand 3's own sentence: it stops only for 15, 17, 20 or 21. Here the causes of 15, 20 and 21; 17 is COM's, which completes.
 abbrev pub Allowed : Cause → Type 0
 Allowed Address = ⊥
 Allowed Overflow = ⊥
