@@ -14,10 +14,10 @@ use Rattle.inspector.specs.Areas.{meets, astray}
 use Rattle.inspector.specs.Cells.{cellIn, cellOf, arrayFits, unfit}
 use Rattle.inspector.specs.Scan.{shapeAt, broken, syllableAt, closes, breaksAt}
 use Rattle.inspector.specs.Targets.{missesTarget}
-use Rattle.inspector.specs.Verdicts.{lowest, given, blamed, refused, verdictOf}
-use Rattle.inspector.specs.declared.verdict.Verdict.{Verdict}
+use Rattle.inspector.specs.Verdicts.{given, verdictOf}
+use Rattle.demands.specs.Rules.{rules, AllKept, none, kept}
 use Rattle.demands.proofs.Tests.{shows-and, shows-lt, shows-le, shows-eq, shows, denies-or, denies-and, denies-lt, denies-le, denies, denies-not}
-use Rattle.demands.proofs.Lowest.{lowest-none, blamed-none, refused-none}
+use Rattle.demands.proofs.Exact.{zero-kept}
 use Rattle.demands.proofs.Records.{apart, Range, range, cells-in, cell-in}
 use Rattle.demands.proofs.Arrays.{ArrayFit, array-fit}
 use Rattle.demands.proofs.Passed.{Passed}
@@ -29,28 +29,6 @@ words-fit (w ∷ ws) e zero = shows-and (shows-lt w (2 ^ 48)) (shows (wordsFit w
 words-fit (w ∷ ws) e (suc i) = words-fit ws (shows-and (shows-lt w (2 ^ 48)) (shows (wordsFit ws)) e .1) i
 
 module _ (core sheet : List ℕ) where
-  -- The answer of each rule on, the ones before it kept.
-  abbrev from35 : Verdict
-  from35 = blamed 35 (lowest (missesTarget core sheet) (4 * codeWordsOf sheet) 0) (given 0 0)
-
-  abbrev from34 : Verdict
-  from34 = blamed 34 (lowest (breaksAt core sheet) (4 * codeWordsOf sheet) 0) from35
-
-  abbrev from33 : Verdict
-  from33 = blamed 33 (lowest (unfit core sheet) (tableOf sheet) 0) from34
-
-  abbrev from32 : Verdict
-  from32 = blamed 32 (lowest (astray core sheet) 3 0) from33
-
-  abbrev from31 : Verdict
-  from31 = blamed 31 (lowest (λ i. not (recordGood sheet i)) (entries sheet) 0) from32
-
-  abbrev from30 : Verdict
-  from30 = refused 30 (sheetFits sheet) from31
-
-  abbrev from2 : Verdict
-  from2 = refused 2 (wordsFit core) from30
-
   core-most : lengthFits core ≡ true → length core ≤ 32768
   unfolding lengthFits
   core-most e = shows-and (shows-lt 0 (length core)) (shows-le (length core) 32768) e .1
@@ -159,20 +137,10 @@ module _ (core sheet : List ℕ) where
         targets = lands;
       }
 
+  by-rules : AllKept (rules core sheet) → Passed core sheet
+  by-rules (kept one (kept two (kept thirty (kept records (kept areas (kept cells (kept scan (kept targets none)))))))) =
+      facts (core-most (not-false _ (one 0 (omega arith)))) (words-fit core (not-false _ (two 0 (omega arith)))) (sheet-least (not-false _ (thirty 0 (omega arith))))
+      (λ i h. not-false _ (records i h)) areas cells scan targets
+
   pub passed : verdictOf core sheet ≡ given 0 0 → Passed core sheet
-  unfolding verdictOf
-  passed e =
-      let r₁ = refused-none 0 (lengthFits core) from2 e in
-      let r₂ = refused-none 1 (wordsFit core) from30 (r₁ .1) in
-      let r₃ = refused-none 29 (sheetFits sheet) from31 (r₂ .1) in
-      let r₄ = blamed-none 30 (lowest (λ i. not (recordGood sheet i)) (entries sheet) 0) from32 (r₃ .1) in
-      let r₅ = blamed-none 31 (lowest (astray core sheet) 3 0) from33 (r₄ .1) in
-      let r₆ = blamed-none 32 (lowest (unfit core sheet) (tableOf sheet) 0) from34 (r₅ .1) in
-      let r₇ = blamed-none 33 (lowest (breaksAt core sheet) (4 * codeWordsOf sheet) 0) from35 (r₆ .1) in
-      let r₈ = blamed-none 34 (lowest (missesTarget core sheet) (4 * codeWordsOf sheet) 0) (given 0 0) (r₇ .1) in
-      facts (core-most (r₁ .0)) (words-fit core (r₂ .0)) (sheet-least (r₃ .0))
-      (λ i h. not-false _ (lowest-none _ (entries sheet) 0 (r₄ .0) i (omega arith) (omega arith)))
-      (λ i h. lowest-none (astray core sheet) 3 0 (r₅ .0) i (omega arith) (omega arith))
-      (λ i h. lowest-none _ (tableOf sheet) 0 (r₆ .0) i (omega arith) (omega arith))
-      (λ i h. lowest-none _ (4 * codeWordsOf sheet) 0 (r₇ .0) i (omega arith) (omega arith))
-      (λ i h. lowest-none _ (4 * codeWordsOf sheet) 0 (r₈ .0) i (omega arith) (omega arith))
+  passed e = by-rules (zero-kept core sheet e)

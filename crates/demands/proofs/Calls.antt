@@ -23,16 +23,16 @@ use Rattle.word.proofs.Makings.{data-back}
 use Rattle.inspector.specs.Sheets.{roomOf, rOf}
 use Rattle.inspector.specs.Cells.{cellOf}
 use Rattle.inspector.specs.Scan.{Item, number, place, Shape, leaves, when, value, calledOver}
-use Rattle.demands.specs.Stays.{ArrayWord}
+use Rattle.demands.specs.Stays.{ArrayWord, Open}
 use Rattle.demands.proofs.Tests.{shows-and, shows, shows-eq}
 use Rattle.demands.proofs.Safe.{Safe, goes, stops, safe-if, safe-bind}
 use Rattle.demands.proofs.Arrays.{ArrayFit}
 use Rattle.demands.proofs.Passed.{Passed}
-use Rattle.demands.proofs.Holds.{Open, Fits, plain, points, At, EmptyA, FullA}
+use Rattle.demands.proofs.Holds.{Fits, plain, points, At, EmptyA, FullA}
 use Rattle.demands.proofs.Cores.{open-in, array-unnamed}
 use Rattle.demands.proofs.Stacks.{register-some, rest-empty}
 use Rattle.demands.proofs.Adjusts.{a-empty, b-full}
-use Rattle.demands.proofs.Words.{taken-safe, indexed-flag, indexed-presence, indexed-address}
+use Rattle.demands.proofs.Words.{taken-safe, indexed-flag, indexed-second, indexed-presence, indexed-size, indexed-address}
 use Rattle.demands.proofs.Operators.{Does, does-when, at-a}
 use Rattle.demands.proofs.Stores.{address-safe, cell-open}
 
@@ -71,7 +71,7 @@ module _ (core sheet : List ℕ) (ok : Passed core sheet) (p : ℕ) where
       let o : Open core sheet m = subst (λ (m : ℕ). Open core sheet m) (sym e) (cell-open core sheet ok p k c) in
       let d = data-back true 0 m in
       let at : addressOf (dataOf true 0 m) ≡ m = omega (arith, d .address, open-in core sheet ok o, ok .most) in
-      goes (at-a core sheet ok p st st (v .kept) (v .set) room (points (d .flag) (d .presence) (subst (λ (m : ℕ). Open core sheet m) (sym at) o)) (v .rest))
+      goes (at-a core sheet ok p st st (v .kept) (v .set) room (points (record { flag = d .flag; second = d .second; presence = d .presence; size = d .size; target = subst (λ (m : ℕ). Open core sheet m) (sym at) o })) (v .rest))
   left-safe false k m st xs c e v room =
       let o : Open core sheet m = subst (λ (m : ℕ). Open core sheet m) (sym e) (cell-open core sheet ok p k c) in
       goes (at-a core sheet ok p st st (v .kept) (v .set) room (plain (v .kept .plain m o)) (v .rest))
@@ -103,8 +103,14 @@ module _ (core sheet : List ℕ) (ok : Passed core sheet) (p : ℕ) where
     indexed-fits n h =
         let at : addressOf (withField (withField d 8 17 0) 33 47 (sumOf (addressOf d) n)) ≡ addressOf d + n =
         indexed-address d (sumOf (addressOf d) n) ∙ small (addressOf d + n) (omega (arith, array-is .area, ok .most)) in
-        points (indexed-flag d (sumOf (addressOf d) n) ∙ array-is .flag) (indexed-presence d (sumOf (addressOf d) n) ∙ array-is .presence)
-        (subst (λ (m : ℕ). Open core sheet m) (sym at) (inr (area-word n h)))
+        points
+        (record {
+          flag = indexed-flag d (sumOf (addressOf d) n) ∙ array-is .flag;
+          second = indexed-second d (sumOf (addressOf d) n) ∙ array-is .second;
+          presence = indexed-presence d (sumOf (addressOf d) n) ∙ array-is .presence;
+          size = indexed-size d (sumOf (addressOf d) n);
+          target = subst (λ (m : ℕ). Open core sheet m) (sym at) (inr (area-word n h));
+        })
       where
         small : (x : ℕ) → x < 32768 → x % 32768 % 32768 ≡ x
         small x h = omega arith
@@ -118,7 +124,7 @@ module _ (core sheet : List ℕ) (ok : Passed core sheet) (p : ℕ) where
         (λ n h. goes (record { kept = i .kept; set = i .set; on = refl; a = indexed-fits n h; rest = rest-empty core sheet (i .under) }))))
 
   target : {w : ℕ} → Fits core sheet place w → Open core sheet (addressOf w)
-  target (points e f o) = o
+  target (points q) = q .target
 
   -- The word at a place is read, its flag off.
   load-safe : (st : State) (xs : Shape) → FullA core sheet p place xs st → length (number ∷ xs) ≤ roomOf sheet → Safe (At core sheet p (number ∷ xs)) (loadOf st)

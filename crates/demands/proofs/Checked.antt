@@ -1,12 +1,9 @@
 -- Beside demand 3: the machine's whole step, its checks included, and what a run of a passed segment leaves at its end.
 use Prim.Native.Nat.{ℕ, zero, suc}
 use mathlib.Core.Path.{_≡_, refl, sym, subst}
-use mathlib.Core.Bool.{false}
 use mathlib.Core.List.{List}
 use native.Mathlib.Omega.{arith}
 use borrow.Author.Tests.{eq-eqb}
-use lib.ListN.{length, getD}
-use Rattle.word.specs.Layout.{flagOf}
 use Rattle.machine.specs.declared.outcome.Cause.{Cause}
 use Rattle.machine.specs.declared.outcome.Cause.the-variants.{Address, Overflow, Presence, Flag, Index, Unbuilt, Unwhole, ZeroDivisor}
 use Rattle.machine.specs.Outcomes.{if_then_else_, numberOf}
@@ -18,7 +15,7 @@ use Rattle.laws.proofs.FitChecks.{fit-refusal}
 use Rattle.inspector.specs.Verdicts.{verdictOf, given}
 use Rattle.demands.specs.Stays.{startOf, Reaches, Allowed}
 use Rattle.demands.specs.Leaves.{Number, spent, index, communicate, unwhole, zero-divisor, Leaves}
-use Rattle.machine.specs.Runs.{Run, counted, goesOn, runFrom}
+use Rattle.machine.specs.Runs.{Run, goesOn, runFrom}
 use Rattle.demands.proofs.Passed.{Passed}
 use Rattle.demands.proofs.Answers.{passed}
 use Rattle.demands.proofs.Holds.{Kept}

@@ -11,9 +11,9 @@ use lib.Seq.{getD-set-same, getD-set-other}
 use Rattle.word.specs.Layout.{flagOf}
 use Rattle.inspector.specs.Sheets.{codeOf, codeWordsOf, rOf, tableOf}
 use Rattle.inspector.specs.Cells.{cellOf}
-use Rattle.demands.specs.Stays.{StackWord, NumberCell, Named, SameOutside}
+use Rattle.demands.specs.Stays.{StackWord, NumberCell, Open, Named, SameOutside}
 use Rattle.demands.proofs.Passed.{Passed}
-use Rattle.demands.proofs.Holds.{Open, Kept}
+use Rattle.demands.proofs.Holds.{Kept}
 
 module _ (core sheet : List ℕ) (ok : Passed core sheet) where
   number-low : {m : ℕ} (n : NumberCell sheet m) → n .cell < tableOf sheet

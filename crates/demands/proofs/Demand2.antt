@@ -1,7 +1,7 @@
 -- Demand 2 holds.
 use Rattle.laws.proofs.TrialSums.{trials-come}
 use Rattle.laws.proofs.FitSteps.{step-sole}
-use Rattle.laws.proofs.Running.{run-sole, run-none, run-add}
+use Rattle.laws.proofs.Running.{run-sole, run-none, run-on, run-com, run-stop, run-add}
 use Rattle.tape.proofs.RoundTrip.{file-same, core-same}
 use Rattle.demands.specs.Demand2.{Demand2}
 
@@ -12,6 +12,9 @@ demand2 =
       step-sole = step-sole;
       run-sole = run-sole;
       run-none = run-none;
+      run-on = run-on;
+      run-com = run-com;
+      run-stop = run-stop;
       run-add = run-add;
       file-same = file-same;
       core-same = core-same;

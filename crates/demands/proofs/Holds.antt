@@ -1,25 +1,20 @@
 -- What holds of a state that a passed segment reaches: its stack matches a shape, word by item.
 use Prim.Native.Nat.{ℕ, _+_, _-_, _*_, _≤_, _<_}
 use mathlib.Core.Path.{_≡_}
-use mathlib.Core.Logic.{_⊎_}
 use mathlib.Core.Bool.{Bool, true, false}
 use mathlib.Core.List.{List, [], _∷_}
 use lib.ListN.{length, getD}
-use Rattle.word.specs.Layout.{flagOf, presenceOf, addressOf}
+use Rattle.word.specs.Layout.{flagOf}
 use Rattle.machine.specs.States.{State}
 use Rattle.inspector.specs.Sheets.{sOf, roomOf, rOf}
 use Rattle.inspector.specs.Scan.{Item, literal, number, place, Shape}
-use Rattle.demands.specs.Stays.{NumberCell, ArrayWord, SameOutside}
-
--- The words that a segment may store to: number cells and array words.
-abbrev pub Open : List ℕ → List ℕ → ℕ → Type 0
-Open core sheet m = NumberCell sheet m ⊎ ArrayWord core sheet m
+use Rattle.demands.specs.Stays.{Place, SameOutside, Plain}
 
 -- A word matches an item.
 pub data Fits (core sheet : List ℕ) : Item → ℕ → Type 0 where
   is : {k : ℕ} → k < 1024 → Fits core sheet (literal k) k
   plain : {w : ℕ} → flagOf w ≡ false → Fits core sheet number w
-  points : {w : ℕ} → flagOf w ≡ true → presenceOf w ≡ true → Open core sheet (addressOf w) → Fits core sheet place w
+  points : {w : ℕ} → Place core sheet w → Fits core sheet place w
 
 -- The words of the stack in core, from S down to the starting S, match a shape.
 abbrev pub Under : List ℕ → List ℕ → List ℕ → ℕ → Shape → Type 0
@@ -41,7 +36,7 @@ pub record Rest (core sheet l : List ℕ) (bfull : Bool) (b s : ℕ) (xs : Shape
 pub record Kept (core sheet l : List ℕ) : Type 0 where
   pub size : length l ≡ length core
   pub same : SameOutside core sheet l core
-  pub plain : (m : ℕ) → Open core sheet m → flagOf (getD l m 0) ≡ false
+  pub plain : Plain core sheet l
 
 -- The registers that stay, and the place p in core of the next syllable.
 pub record Set (sheet : List ℕ) (p r : ℕ) (salf : Bool) (c l : ℕ) : Type 0 where

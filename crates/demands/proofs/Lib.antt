@@ -1,5 +1,6 @@
 pub mod Tests
 pub mod Lowest
+pub mod Exact
 pub mod Records
 pub mod Arrays
 pub mod Passed
@@ -18,6 +19,6 @@ pub mod Ends
 pub mod Performs
 pub mod Segments
 pub mod Checked
-pub mod Samples
 pub mod Demand1
 pub mod Demand2
+pub mod Demand3

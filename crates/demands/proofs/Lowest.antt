@@ -1,11 +1,10 @@
--- A rule broken nowhere holds at every place, and an answer of 0 broke none.
+-- A search that found nothing passed every place.
 use Prim.Native.Nat.{ℕ, zero, suc, _+_, _≤_, _<_}
-use mathlib.Core.Path.{_≡_, refl, ap, subst}
+use mathlib.Core.Path.{_≡_, refl, subst}
 use mathlib.Core.Bool.{Bool, true, false}
 use native.Mathlib.Omega.{arith}
 use native.Mathlib.Decide.{ℕ-discrete}
-use Rattle.inspector.specs.declared.verdict.Verdict.{Verdict}
-use Rattle.inspector.specs.Verdicts.{Found, at, nowhere, lowest, given, blamed, refused}
+use Rattle.inspector.specs.Verdicts.{Found, at, nowhere, lowest}
 
 tested : (b : Bool) (i : ℕ) (rest : Found) → elim b [ true ↦ at i | false ↦ rest ] ≡ nowhere → (b ≡ false) × (rest ≡ nowhere)
 tested true i rest e = absurd (clash e)
@@ -23,11 +22,3 @@ lowest-none p zero i e j h l = absurd (omega arith)
 lowest-none p (suc n) i e j h l =
     let now : (p i ≡ false) × (lowest p n (suc i) ≡ nowhere) = tested (p i) i (lowest p n (suc i)) e in
     here p i j (ℕ-discrete i j) (now .0) (λ q. lowest-none p n (suc i) (now .1) j (omega arith) (omega arith))
-
-pub blamed-none : (n : ℕ) (f : Found) (rest : Verdict) → blamed (suc n) f rest ≡ given 0 0 → (f ≡ nowhere) × (rest ≡ given 0 0)
-blamed-none n (at p) rest e = absurd (omega (arith, ap (λ (v : Verdict). v .number) e))
-blamed-none n nowhere rest e = (refl, e)
-
-pub refused-none : (n : ℕ) (b : Bool) (rest : Verdict) → refused (suc n) b rest ≡ given 0 0 → (b ≡ true) × (rest ≡ given 0 0)
-refused-none n true rest e = (refl, e)
-refused-none n false rest e = absurd (omega (arith, ap (λ (v : Verdict). v .number) e))

@@ -1,4 +1,4 @@
--- Demand 3: a segment that the inspector passes stays inside its sheet.
+-- A passed segment starts, and goes on, in states of which the invariant holds.
 use Prim.Native.Nat.{ℕ, zero, suc, _+_, _-_, _*_, _/_, _%_, _^_, _<_, _≤_}
 use mathlib.Core.Path.{_≡_, refl, sym, _∙_, ap, subst}
 use mathlib.Core.Logic.{inl, inr}
@@ -13,16 +13,15 @@ use Rattle.word.specs.Layout.{flagOf}
 use Rattle.machine.specs.Outcomes.{Res, on, if_then_else_}
 use Rattle.machine.specs.States.{State}
 use Rattle.machine.specs.Memory.{readOf}
-use Rattle.machine.specs.Steps.{Ended, next, communicated, stopped, advancedOf, fetchedBy, executeOf}
+use Rattle.machine.specs.Steps.{Ended, advancedOf, fetchedBy, executeOf}
 use Rattle.syllable.specs.Decoding.{decodeOf}
 use Rattle.syllable.specs.Places.{syllableOf, nextOf}
 use Rattle.syllable.proofs.RoundTrip.{decode-proper}
 use Rattle.inspector.specs.Sheets.{codeOf, codeWordsOf}
 use Rattle.inspector.specs.Scan.{Shape, shapeAt, syllableAt}
-use Rattle.demands.specs.Stays.{startOf, Reaches, Next, Stays, Demand3}
+use Rattle.demands.specs.Stays.{Open, startOf, Reaches}
 use Rattle.demands.proofs.Passed.{Passed}
-use Rattle.demands.proofs.Answers.{passed}
-use Rattle.demands.proofs.Holds.{Open, At, empty}
+use Rattle.demands.proofs.Holds.{At, empty}
 use Rattle.demands.proofs.Cores.{code-unnamed}
 use Rattle.demands.proofs.Stacks.{rest-empty}
 use Rattle.demands.proofs.Ends.{Inv, Good}
@@ -62,10 +61,10 @@ module _ (core sheet : List ℕ) (ok : Passed core sheet) where
     place-l : u .regs .l ≡ v .i % 4
     place-l = omega (arith, v .at .set .place, v .at .set .low)
 
-    from-code : codeOf sheet ≤ u .regs .c
+    pub from-code : codeOf sheet ≤ u .regs .c
     from-code = omega (arith, place-c)
 
-    below-code : u .regs .c < codeOf sheet + codeWordsOf sheet
+    pub below-code : u .regs .c < codeOf sheet + codeWordsOf sheet
     below-code = omega (arith, place-c, v .below)
 
     fetched : syllableAt core sheet (v .i) ≡ decodeOf (syllableOf (getD (u .core) (u .regs .c) 0) (u .regs .l))
@@ -79,14 +78,6 @@ module _ (core sheet : List ℕ) (ok : Passed core sheet) where
     execute-good =
         subst (λ (o : Res ℕ). Good core sheet (fetchedBy o u)) (sym (read-on (u .core) (u .regs .c) (omega (arith, below-code, ok .code-in, v .at .kept .size))))
         (perform-good core sheet ok (u .regs .c) (v .i) (v .below) (v .xs) (v .shape) (advancedOf u) (advanced _ (v .xs) u (v .at)) _ fetched (decode-proper _ (twelve-bits (getD (u .core) (u .regs .c) 0) (u .regs .l))))
-
-    ended : (e : Ended) → Good core sheet e → Next core sheet u e
-    ended (next w) g = (λ m n. g .at .kept .same m n ∙ sym (v .at .kept .same m n), g .at .kept .plain)
-    ended (communicated w) g = (λ m n. g .same m n ∙ sym (v .at .kept .same m n), g .plain)
-    ended (stopped n) g = g
-
-    stays : Stays core sheet u
-    stays = record { from = from-code; below = below-code; size = v .at .kept .size; outside = v .at .kept .same; plain = v .at .kept .plain; step = ended (executeOf u) execute-good }
 
   plain-start : (m : ℕ) → Open core sheet m → flagOf (getD core m 0) ≡ false
   plain-start m (inl n) = subst (λ (m : ℕ). flagOf (getD core m 0) ≡ false) (sym (n .here)) (ok .numbers (n .cell) (n .number))
@@ -113,6 +104,3 @@ module _ (core sheet : List ℕ) (ok : Passed core sheet) where
   pub reached : (n : ℕ) (u : State) → Reaches n (startOf core sheet) u → Inv core sheet u
   reached zero u e = subst (λ (u : State). Inv core sheet u) (sym e) start
   reached (suc n) u r = subst (λ (e : Ended). Good core sheet e) (r .2) (execute-good (r .0) (reached n (r .0) (r .1)))
-
-pub demand3 : Demand3
-demand3 core sheet e n u r = stays core sheet (passed core sheet e) u (reached core sheet (passed core sheet e) n u r)

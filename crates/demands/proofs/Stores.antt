@@ -19,7 +19,8 @@ use Rattle.inspector.specs.Scan.{Item, number, Shape, value, writable, loaded, 
 use Rattle.demands.proofs.Tests.{shows-and, shows, shows-eq}
 use Rattle.demands.proofs.Safe.{Safe, goes, safe-if, safe-bind, safe-map}
 use Rattle.demands.proofs.Passed.{Passed}
-use Rattle.demands.proofs.Holds.{Open, Fits, is, plain, points, Under, Kept, Set, At, FullB}
+use Rattle.demands.specs.Stays.{Open}
+use Rattle.demands.proofs.Holds.{Fits, is, plain, points, Under, Kept, Set, At, FullB}
 use Rattle.demands.proofs.Cores.{open-in, open-stack, keep-open}
 use Rattle.demands.proofs.Stacks.{under-height, under-set, register-none, rest-empty, rest-some}
 use Rattle.demands.proofs.Adjusts.{a-full, both-full}
@@ -51,12 +52,12 @@ module _ (core sheet : List ℕ) (ok : Passed core sheet) (p : ℕ) where
       safe-map (address-safe here st (field k 38 47) q h (omega (arith, low, open-in core sheet ok o)))
       (λ m e. subst (λ (m : ℕ). Open core sheet m) (omega (arith, low, e)) o))
   place-safe here st q h v (plain e) = absurd (false≢true v)
-  place-safe here st {w = w} q h v (points e f o) =
+  place-safe here st {w = w} q h v (points r) =
       safe-if (flagOf w)
       (λ _. safe-if (presenceOf w)
-      (λ _. safe-map (in-core-safe (length (st .core)) (addressOf w) (omega (arith, q .size, open-in core sheet ok o))) (λ m i. subst (λ (m : ℕ). Open core sheet m) (sym i) o))
-      (λ i. absurd (true≢false (sym f ∙ i))))
-      (λ i. absurd (true≢false (sym e ∙ i)))
+      (λ _. safe-map (in-core-safe (length (st .core)) (addressOf w) (omega (arith, q .size, open-in core sheet ok (r .target)))) (λ m i. subst (λ (m : ℕ). Open core sheet m) (sym i) (r .target)))
+      (λ i. absurd (true≢false (sym (r .presence) ∙ i))))
+      (λ i. absurd (true≢false (sym (r .flag) ∙ i)))
 
   pub lod-does : (here : ℕ) (st : State) (xs : Shape) → At core sheet p xs st → Does core sheet p (loaded sheet xs) (lodOf here st)
   unfolding lodOf

@@ -7,8 +7,8 @@ use native.Mathlib.Nat.{div-div-eq-div-mul}
 use native.Mathlib.Omega.{arith}
 use lib.Dec.{eqb, ltb}
 use lib.IntN.{ℤ, natAbs}
-use Rattle.word.specs.Field.{field, placed, withField, oneOf}
-use Rattle.word.specs.Layout.{flagOf, presenceOf, addressOf}
+use Rattle.word.specs.Field.{field, bit, placed, withField, oneOf}
+use Rattle.word.specs.Layout.{flagOf, presenceOf, sizeOf, addressOf}
 use Rattle.word.specs.Numbers.{operandOf, madeBy, negative, wholeOf}
 use Rattle.word.specs.declared.number.Whole.{Whole}
 use Rattle.word.specs.declared.number.Whole.the-variants.{Number, NotWhole}
@@ -51,6 +51,12 @@ module _ (d n : ℕ) where
   pub indexed-presence : presenceOf (withField (withField d 8 17 0) 33 47 n) ≡ presenceOf d
   indexed-presence = let e : field (withField (withField d 8 17 0) 33 47 n) 2 2 ≡ field d 2 2 = omega arith in ap (λ (n : ℕ). eqb n 1) e
 
+  pub indexed-second : bit (withField (withField d 8 17 0) 33 47 n) 1 ≡ bit d 1
+  indexed-second = let e : field (withField (withField d 8 17 0) 33 47 n) 1 1 ≡ field d 1 1 = omega arith in ap (λ (n : ℕ). eqb n 1) e
+
+  pub indexed-size : sizeOf (withField (withField d 8 17 0) 33 47 n) ≡ 0
+  indexed-size = omega arith
+
   pub indexed-address : addressOf (withField (withField d 8 17 0) 33 47 n) ≡ n % 32768
   indexed-address = omega arith
 
@@ -58,7 +64,7 @@ module _ (d n : ℕ) where
 pub value-off : {core sheet : List ℕ} {x : Item} {w : ℕ} → value x ≡ true → Fits core sheet x w → Off w
 value-off v (is h) = small-off _ h
 value-off v (plain e) = e
-value-off v (points e f g) = absurd (false≢true v)
+value-off v (points q) = absurd (false≢true v)
 
 -- ---- arithmetic stops only for 20 or 21
 

@@ -1,15 +1,21 @@
--- Demand 1: it takes everything it can be handed. Malformed ones are turned away by number; a syllable that stops, save COM,
--- leaves registers and core as they stood before it. (That every call takes every argument is in the calls' contracts: none has a `requires`.)
+-- Demand 1: "It takes everything it can be handed. Any core, register set, sheet and budget. Malformed ones are turned away by number.
+-- A syllable that stops, save COM, leaves registers and core as they stood before it."
+-- That every call takes every argument is in the calls' contracts: none has a `requires`. So are the refusals of hand-out, post, cabinet and
+-- runone: see `handout/specs/HandOut.antt`, `post/specs/Posting.antt`, `cabinet/specs` and `trial/specs/Trials.antt`.
 use Prim.Native.Nat.{ℕ, _<_}
 use mathlib.Core.Path.{_≡_}
 use mathlib.Core.Logic.{_≢_}
+use mathlib.Core.Bool.{true, false}
 use mathlib.Core.List.{List}
 use lib.ListN.{length}
+use Rattle.word.specs.Core.{lengthFits, wordsFit}
 use Rattle.machine.specs.declared.outcome.Registers.{Registers}
 use Rattle.machine.specs.Shapes.{stateOf}
 use Rattle.machine.specs.Steps.{refusalOf, Stepped, stepOf}
 use Rattle.machine.specs.Runs.{endsAt, runOf}
 use Rattle.tape.specs.Files.{readNumberOf, readOf, writeNumberOf, writeOf}
+use Rattle.inspector.specs.Sheets.{sheetFits}
+use Rattle.inspector.specs.Verdicts.{given, verdictOf}
 
 pub record Demand1 : Type 0 where
   -- a step whose checks fail gives back the first that failed, and nothing changes
@@ -25,3 +31,7 @@ pub record Demand1 : Type 0 where
   -- a core file that is refused writes nothing, and so does a room that is
   pub read-kept : (bytes core : List ℕ) → readNumberOf bytes (length core) ≢ 0 → readOf bytes core ≡ core
   pub write-kept : (core room : List ℕ) → writeNumberOf core (length room) ≢ 0 → writeOf core room ≡ room
+  -- the inspector: 1, then 2, of the core, whatever the sheet is; then 30 of a sheet that is no sheet by its length
+  pub inspect-length : (core sheet : List ℕ) → lengthFits core ≡ false → verdictOf core sheet ≡ given 1 0
+  pub inspect-words : (core sheet : List ℕ) → lengthFits core ≡ true → wordsFit core ≡ false → verdictOf core sheet ≡ given 2 0
+  pub inspect-sheet : (core sheet : List ℕ) → lengthFits core ≡ true → wordsFit core ≡ true → sheetFits sheet ≡ false → verdictOf core sheet ≡ given 30 0

@@ -1,7 +1,8 @@
--- Demand 2: each syllable does what the paper says; core files round-trip both ways.
--- (That the calls give what the definitions of `machine` and `tape` say is in their contracts, by equations; here stands what the definitions themselves do.)
-use Prim.Native.Nat.{ℕ, _+_, _*_}
+-- Demand 2: "Each syllable does what the paper says: same words, addresses, registers, stops. Core files round-trip both ways."
+-- That the calls give what the definitions of `machine` and `tape` say is in their contracts, by equations; here stands what the definitions themselves do.
+use Prim.Native.Nat.{ℕ, suc, _+_, _*_, _<_}
 use mathlib.Core.Path.{_≡_}
+use mathlib.Core.Logic.{_≢_}
 use mathlib.Core.Bool.{true}
 use mathlib.Core.List.{List}
 use lib.ListN.{length}
@@ -11,7 +12,7 @@ use Rattle.machine.specs.declared.outcome.Registers.{Registers}
 use Rattle.machine.specs.States.{State}
 use Rattle.machine.specs.Shapes.{stateOf}
 use Rattle.machine.specs.Steps.{refusalOf, Stepped, stepOf}
-use Rattle.machine.specs.Runs.{Run, endsAt, runFrom, runOf}
+use Rattle.machine.specs.Runs.{Run, endsAt, counted, runFrom, runOf}
 use Rattle.laws.specs.Trials.{trials, allCome}
 use Rattle.laws.specs.Runs.{goesOnFor}
 use Rattle.tape.specs.Files.{readNumberOf, readOf, writeNumberOf, writeOf}
@@ -22,8 +23,17 @@ pub record Demand2 : Type 0 where
   -- one answer for each argument
   pub step-sole : (core : List ℕ) (g : Registers) {r r′ : Stepped} → r ≡ stepOf core g → r′ ≡ stepOf core g → r ≡ r′
   pub run-sole : (core : List ℕ) (g : Registers) (budget : ℕ) {r r′ : Run} → r ≡ runOf core g budget → r′ ≡ runOf core g budget → r ≡ r′
-  -- a run is its steps: of none, nothing is fetched; of n and then m, it is the run of n + m, the count being that of completed steps
+  -- a run is its steps, and the count is that of completed steps. Core and registers pass the checks; of a budget of 0, nothing is fetched
   pub run-none : (core : List ℕ) (g : Registers) → refusalOf core g ≡ 0 → runOf core g 0 ≡ endsAt 0 0 (stateOf core g)
+  -- of one more: a step that goes on, and then the run of the rest from what it left, with one more completed
+  pub run-on : (core : List ℕ) (g : Registers) (budget : ℕ) → refusalOf core g ≡ 0 → budget < 1000000 → stepOf core g .number ≡ 0
+      → runOf core g (suc budget) ≡ counted 1 (runOf (stepOf core g .core) (stepOf core g .regs) budget)
+  -- or a step that communicates, which is completed, and no more; or a step that stops, which is not, and leaves all as before
+  pub run-com : (core : List ℕ) (g : Registers) (budget : ℕ) → refusalOf core g ≡ 0 → budget < 1000000 → stepOf core g .number ≡ 17
+      → runOf core g (suc budget) ≡ endsAt 17 1 (stateOf (stepOf core g .core) (stepOf core g .regs))
+  pub run-stop : (core : List ℕ) (g : Registers) (budget : ℕ) → refusalOf core g ≡ 0 → budget < 1000000 → stepOf core g .number ≢ 0 → stepOf core g .number ≢ 17
+      → runOf core g (suc budget) ≡ endsAt (stepOf core g .number) 0 (stateOf core g)
+  -- a run of n that spent its budget, and then of m, is the run of n + m
   pub run-add : (n m : ℕ) (st : State) → runFrom (n + m) st ≡ goesOnFor (runFrom n st) m
   -- an accepted file read and written is the same file
   pub file-same : (bytes core room : List ℕ) → below 256 bytes → readNumberOf bytes (length core) ≡ 0 → length room ≡ length bytes

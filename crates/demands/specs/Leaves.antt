@@ -3,10 +3,9 @@ use Prim.Native.Nat.{ℕ}
 use mathlib.Core.Path.{_≡_}
 use mathlib.Core.List.{List}
 use lib.ListN.{length}
-use Rattle.machine.specs.Runs.{Run}
 use Rattle.demands.specs.Stays.{SameOutside, Plain}
 
--- "it stops only for 15, 17, 20 or 21"; 0 is a budget spent.
+-- Demand 3's own sentence: it stops only for 15, 17, 20 or 21. And 0 is a budget spent.
 pub data Number : ℕ → Type 0 where
   spent : Number 0
   index : Number 15

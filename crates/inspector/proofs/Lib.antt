@@ -2,7 +2,6 @@ pub mod Aims
 pub mod Answers
 pub mod Arrays
 pub mod Doings
-pub mod Exact
 pub mod Examples
 pub mod Goings
 pub mod Paints

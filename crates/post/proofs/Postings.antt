@@ -23,6 +23,7 @@ use Rattle.laws.proofs.FitRuns.{run-fit}
 use Rattle.demands.specs.Stays.{startOf}
 use Rattle.demands.specs.Leaves.{Leaves}
 use Rattle.demands.proofs.Checked.{run-leaves, start-passes}
+use Rattle.demands.proofs.Demand3.{demand3}
 use Rattle.post.specs.Posting.{Posting, turnedAway, ran, within, judged, postOf, Guarantees, Posts}
 
 -- ---- an answer of 0 is at place 0
@@ -63,9 +64,9 @@ guard : (core sheet : List ℕ) (budget : ℕ) (b : Bool) (v : Verdict) → (b �
 guard core sheet budget true v p q = cut (leb budget 1000000)
   where
     cut : (d : Bool) → Guarantees core sheet (within d core sheet budget)
-    cut true = record { away = λ n. absurd (n refl); posted = λ e. run-leaves core sheet (p refl) budget }
-    cut false = record { away = λ n. refl; posted = λ e. absurd (omega arith) }
-guard core sheet budget false v p q = record { away = λ n. refl; posted = λ e. absurd (q refl e) }
+    cut true = record { away = λ n. absurd (n refl); posted = λ e. run-leaves core sheet (p refl) budget; throughout = λ e. demand3 .stays core sheet (p refl) }
+    cut false = record { away = λ n. refl; posted = λ e. absurd (omega arith); throughout = λ e. absurd (omega arith) }
+guard core sheet budget false v p q = record { away = λ n. refl; posted = λ e. absurd (q refl e); throughout = λ e. absurd (q refl e) }
 
 pub guarantees : (core sheet : List ℕ) (budget : ℕ) → Guarantees core sheet (postOf core sheet budget)
 unfolding postOf

@@ -6,10 +6,11 @@ use mathlib.Core.Logic.{_≢_}
 use mathlib.Core.List.{List}
 use lib.Dec.{eqb, leb}
 use Rattle.machine.specs.declared.outcome.Registers.{Registers}
+use Rattle.machine.specs.States.{State}
 use Rattle.machine.specs.Runs.{Run, runFrom}
 use Rattle.inspector.specs.declared.verdict.Verdict.{Verdict}
 use Rattle.inspector.specs.Verdicts.{verdictOf}
-use Rattle.demands.specs.Stays.{startOf}
+use Rattle.demands.specs.Stays.{startOf, Reaches, Stays}
 use Rattle.demands.specs.Leaves.{Leaves}
 use Rattle.post.specs.declared.Posted.{Posted}
 
@@ -46,10 +47,11 @@ abbrev pub postedOf : Posted → List ℕ → Posting
 postedOf r core = record { number = r .number; place = r .place; stop = r .stop; completed = r .completed; core = core; regs = r .regs }
 
 -- What every posting guarantees: turned away, the core is as it was; else the stop is 0, 15, 17, 20 or 21, words outside the sheet's are
--- as they were, and named cells and arrays are plain.
+-- as they were, and named cells and arrays are plain; and throughout, every state that the steps from the start reach stays inside the sheet.
 pub record Guarantees (core sheet : List ℕ) (r : Posting) : Type 0 where
   pub away : r .number ≢ 0 → r .core ≡ core
   pub posted : r .number ≡ 0 → Leaves core sheet (r .stop) (r .core)
+  pub throughout : r .number ≡ 0 → (n : ℕ) (u : State) → Reaches n (startOf core sheet) u → Stays core sheet u
 
 -- The claim of `post`: the answer by the definition, and the guarantees of it.
 pub record Posts (core sheet : List ℕ) (budget : ℕ) (r : Posting) : Type 0 where

@@ -1,58 +1,18 @@
 -- The answer is exact: 0 if and only if no printed rule is broken; n at p if and only if that rule is broken at p, at no lower
 -- place, and no earlier rule is broken anywhere.
-use Prim.Native.Nat.{ℕ, zero, suc, _+_, _*_, _≤_, _<_}
+use Prim.Native.Nat.{ℕ, zero, suc, _+_, _≤_, _<_}
 use mathlib.Core.Path.{_≡_, refl, sym, _∙_, ap, subst}
 use mathlib.Core.Bool.{Bool, true, false, not}
 use mathlib.Core.List.{List, [], _∷_}
 use native.Mathlib.Omega.{arith}
 use borrow.Author.Tests.{eqb-true, eqb-false}
 use lib.Dec.{eqb}
 use Rattle.inspector.specs.declared.verdict.Verdict.{Verdict}
-use Rattle.inspector.specs.Sheets.{entries, codeWordsOf, tableOf, sheetFits, recordGood}
-use Rattle.inspector.specs.Areas.{astray}
-use Rattle.inspector.specs.Cells.{unfit}
-use Rattle.inspector.specs.Scan.{breaksAt}
-use Rattle.inspector.specs.Targets.{missesTarget}
+use Rattle.inspector.specs.Sheets.{sheetFits}
 use Rattle.inspector.specs.Verdicts.{Found, at, nowhere, lowest, given, blamed, refused, verdictOf}
-use Rattle.inspector.proofs.Answers.{none-found}
 use Rattle.word.specs.Core.{lengthFits, wordsFit}
-
--- A printed rule: its number, how many places it has, and where it is broken.
-pub record Rule : Type 0 where
-  pub number : ℕ
-  pub places : ℕ
-  pub broken : ℕ → Bool
-
--- The printed order. The rules 1, 2 and 30 have one place, 0.
-abbrev pub rules : List ℕ → List ℕ → List Rule
-rules core sheet =
-    record { number = 1; places = 1; broken = λ i. not (lengthFits core) } ∷
-    record { number = 2; places = 1; broken = λ i. not (wordsFit core) } ∷
-    record { number = 30; places = 1; broken = λ i. not (sheetFits sheet) } ∷
-    record { number = 31; places = entries sheet; broken = λ i. not (recordGood sheet i) } ∷
-    record { number = 32; places = 3; broken = astray core sheet } ∷
-    record { number = 33; places = tableOf sheet; broken = unfit core sheet } ∷
-    record { number = 34; places = 4 * codeWordsOf sheet; broken = breaksAt core sheet } ∷
-    record { number = 35; places = 4 * codeWordsOf sheet; broken = missesTarget core sheet } ∷
-    []
-
--- A rule that is broken nowhere; one that is broken at p and at no lower place.
-abbrev pub Kept : Rule → Type 0
-Kept r = (i : ℕ) → i < r .places → r .broken i ≡ false
-
-pub record BrokenAt (r : Rule) (p : ℕ) : Type 0 where
-  pub within : p < r .places
-  pub here : r .broken p ≡ true
-  pub lowest : (i : ℕ) → i < p → r .broken i ≡ false
-
-pub data AllKept : List Rule → Type 0 where
-  none : AllKept []
-  kept : {r : Rule} {rs : List Rule} → Kept r → AllKept rs → AllKept (r ∷ rs)
-
--- The rule n is broken at p first: all before it are kept.
-pub data Blames : List Rule → ℕ → ℕ → Type 0 where
-  this : {r : Rule} {rs : List Rule} {p : ℕ} → BrokenAt r p → Blames (r ∷ rs) (r .number) p
-  later : {r : Rule} {rs : List Rule} {n p : ℕ} → Kept r → Blames rs n p → Blames (r ∷ rs) n p
+use Rattle.demands.specs.Rules.{Rule, rules, Kept, BrokenAt, AllKept, none, kept, Blames, this, later}
+use Rattle.demands.proofs.Lowest.{lowest-none}
 
 abbrev answer : List Rule → Verdict
 answer [] = given 0 0
@@ -169,7 +129,7 @@ told (r ∷ rs) n p c e = by (lowest (r .broken) (r .places) 0) refl e (told rs 
         let l : Lowest (r .broken) (r .places) 0 q = found-at (r .broken) (r .places) 0 q g in
         let b : BrokenAt r q = record { within = omega (arith, l .below); here = l .here; lowest = λ i h. l .before i (omega arith) h } in
         subst (λ (m : ℕ). Told (r ∷ rs) m p) (number-of e) (subst (λ (m : ℕ). Told (r ∷ rs) (r .number) m) (place-of e) (guilty (c .0) (this b)))
-    by nowhere g e k = on (k e) (λ i h. none-found (r .broken) (r .places) 0 g i (omega arith) (omega arith))
+    by nowhere g e k = on (k e) (λ i h. lowest-none (r .broken) (r .places) 0 g i (omega arith) (omega arith))
 
 counted : (core sheet : List ℕ) → Counted (rules core sheet)
 counted core sheet =
