@@ -16,8 +16,8 @@ static void list_records(void)
     for (unsigned i = 0; i < MOST_CELLS; i++) {
         const struct cell *cell = &segment.cell[i];
         if (cell->kind != CLOSED)
-            printf("%6u  %-6s  %5u  %5u  %s\n", record++, kinds[cell->kind], i, 1,
-                   cell->name == NULL ? "" : cell->name);
+            printf("%6u  %-6s  %5u  %5u%s%s\n", record++, kinds[cell->kind], i, 1,
+                   cell->name == NULL ? "" : "  ", cell->name == NULL ? "" : cell->name);
     }
 }
 

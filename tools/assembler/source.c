@@ -61,16 +61,14 @@ static void cut_line(void)
     char *feed = memchr(at, '\n', (size_t)(end - at));
     if (feed == NULL)
         feed = end;
-    *feed = '\0';
     line++;
     rest = at;
     at = feed == end ? end : feed + 1;
-    for (char *c = rest; c < feed && *c != '\0'; c++) {
-        if (*c == '#')
-            *c = '\0';
-        else if (!is_space(*c) && (*c < '!' || *c > '~'))
+    char *c = rest;
+    for (; c < feed && *c != '#'; c++)
+        if (!is_space(*c) && (*c < '!' || *c > '~'))
             fail(line, "a character that is not plain ASCII stands outside a comment");
-    }
+    *c = '\0';
 }
 
 bool next_line(void)
