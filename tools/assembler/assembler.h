@@ -19,6 +19,8 @@ enum kind { CLOSED = 0, CODE = 1, STACK = 2, NUMBER_CELL = 3, ARRAY_CELL = 4, TA
 /* The last two bits of a syllable. */
 enum { LITC = 0, OPERATOR = 1, OPDC = 2, DESC = 3 };
 
+enum { NOP = 00055 };
+
 /* What the first ten bits of a syllable wait for until all lines are read. */
 enum wait { NOTHING, CELL_OF_NAME, SIZE_OF_NAME, FORWARD_TO_LABEL, BACK_TO_LABEL };
 
@@ -81,7 +83,7 @@ bool parse_part(void);
 struct cell *cell_named(const char *name);
 void give(unsigned line, unsigned address, uint64_t word);
 
-/* code.c: labels and instructions; finish_code is for when all lines are read. */
+/* code.c: labels and instructions. finish.c: when all lines are read. */
 void parse_code(void);
 void finish_code(void);
 
