@@ -78,6 +78,15 @@ uint64_t fifty_five_step(uint8_t *core, size_t core_length, uint8_t *registers, 
 uint64_t fifty_five_run(uint8_t *core, size_t core_length, uint8_t *registers, size_t registers_length,
                         uint64_t budget, uint64_t *completed);
 
+/* The inspector's number and place (4, 1, then 30 to 35, or 0). *place is always written; it is 0 with 0, 4, 1 and 30. */
+uint64_t fifty_five_inspect(const uint8_t *core, size_t core_length, const uint8_t *sheet, size_t sheet_length, uint64_t *place);
+
+/* Inspects and, where passed, runs from the sheet's start. Checks in order 4, 1, 3 (registers_length not 66), the inspector's 30 to 35, 5. Answers that number; 0 = it ran. *place, *stop, *completed are always written (0 where there is none). Core and registers are written only with answer 0. */
+uint64_t fifty_five_post(uint8_t *core, size_t core_length, const uint8_t *sheet, size_t sheet_length, uint64_t budget, uint8_t *registers, size_t registers_length, uint64_t *place, uint64_t *stop, uint64_t *completed);
+
+/* Number (4, 1, 3, 36 or 0) and, with 0, first word and word count of the array that cell `cell` of the table at 64*r names; *start and *count are always written, 0 and 0 with any other number. */
+uint64_t fifty_five_hand_out(const uint8_t *core, size_t core_length, uint64_t r, uint64_t cell, uint64_t *start, uint64_t *count);
+
 #ifdef __cplusplus
 }
 #endif

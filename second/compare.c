@@ -1,7 +1,8 @@
 /*
  * compare COUNT SEED [--plant WHAT]: the cabinet beside the second machine, on stored cases and on
- * COUNT cases by chance. Ends with status 0 if they agree everywhere and every reachable pair of
- * operator and stop was reached.
+ * COUNT cases by chance, and on COUNT/4 sheets and as many segments. Ends with status 0 if they agree
+ * everywhere and every reachable pair of operator and stop, every clause of the inspector and every stop
+ * of a passed segment was reached.
  */
 #include "compare.h"
 
@@ -11,7 +12,7 @@
 
 static int usage(void)
 {
-    fprintf(stderr, "compare COUNT SEED [--plant number|register|core|completed]\n");
+    fprintf(stderr, "compare COUNT SEED [--plant number|register|core|completed|verdict|place|watch|post|bounds]\n");
     return 2;
 }
 
@@ -25,7 +26,8 @@ static bool read_number(const char *text, uint64_t *number)
 /* One planted difference: the next case that can show it must be found to differ. */
 static bool read_plant(const char *what)
 {
-    static const char *const names[] = {"number", "register", "core", "completed"};
+    static const char *const names[] = {"number", "register", "core",  "completed", "verdict",
+                                        "place",  "watch",    "post", "bounds"};
     for (unsigned i = 0; i < sizeof names / sizeof *names; i++)
         if (strcmp(what, names[i]) == 0)
             planted = (enum planted)(PLANT_NUMBER + i);
@@ -55,5 +57,15 @@ int main(int argc, char **argv)
     unsigned missing = pairs_missing();
     failures += report("pairs of operator and stop", pairs_all(), missing);
     failures += report("stored cases", cases_all(), group_cases());
+    failures += report("sheets", 2 * eighth, group_sheets(2 * eighth));
+    failures += report("clauses of the inspector", clauses_all(), clauses_missing());
+    failures += report("numbers with enough places", 6, places_missing());
+    failures += report("sheets changed anywhere", eighth, group_mutations(eighth));
+    failures += report("segments that pass", 2 * eighth, group_segments(2 * eighth));
+    failures += report("stops of segments", 10, stops_missing());
+    failures += report("bounds that pass", edges_all(), edges_missing());
+    failures += report("posts", eighth, group_post(eighth));
+    failures += report("hand-out", eighth, group_hand_out(eighth));
+    failures += report("neighbouring arrays", neighbours_all(), group_neighbours());
     return failures != 0;
 }
