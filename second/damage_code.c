@@ -55,6 +55,53 @@ static unsigned chance_unbuilt(void)
     }
 }
 
+static bool make_part(const struct segment *seg, unsigned part);
+
+/* Operators over two words, then over one. */
+static const struct {
+    const char *name;
+    unsigned code;
+} twos[] = {{"ADD", ADD}, {"SUB", SUB}, {"MUL", MUL}, {"IDV", IDV}, {"RDV", RDV}, {"GTR", GTR},
+            {"GEQ", GEQ}, {"EQL", EQL}, {"LEQ", LEQ}, {"LSS", LSS}, {"NEQ", NEQ}, {"LND", LND},
+            {"LOR", LOR}, {"LQV", LQV}},
+  ones[] = {{"LNG", LNG}, {"MOP", MOP}, {"SSP", SSP}, {"SSN", SSN}, {"CHS", CHS}, {"TOP", TOP}};
+#define COUNT(list) ((unsigned)(sizeof(list) / sizeof *(list)))
+
+/* What an operator leaves is a number, over literals too. */
+static void make_result(const struct segment *seg, unsigned code, bool two)
+{
+    struct program *p = &made_row;
+    make_part(seg, LITERAL_OF_NUMBER);
+    if (two)
+        make_part(seg, LITERAL_OF_NUMBER);
+    emit(p, code, two ? -1 : code == TOP ? 1 : 0);
+    if (code != TOP)
+        return;
+    emit(p, XCH, 0);
+    emit(p, DEL, -1);
+}
+
+static bool make_number(const struct segment *seg)
+{
+    struct program *p = &made_row;
+    switch (chance(6)) {
+    case 0:
+        if (seg->arrays.count != 0) {
+            make_part(seg, LITERAL);
+            return make_part(seg, OPDC_OF_ARRAY);
+        }
+        break;
+    case 1:
+        make_part(seg, one_in(2) ? LITERAL_OF_NUMBER : PLACE);
+        emit(p, LOD, 0);
+        return true;
+    case 2: make_result(seg, twos[chance(COUNT(twos))].code, true); return true;
+    case 3: make_result(seg, ones[chance(COUNT(ones))].code, false); return true;
+    default: break;
+    }
+    return make_part(seg, OPDC_OF_NUMBER);
+}
+
 /* The syllables of one part; false if the segment has no such cell. */
 static bool make_part(const struct segment *seg, unsigned part)
 {
@@ -63,9 +110,7 @@ static bool make_part(const struct segment *seg, unsigned part)
     switch (part) {
     case WORD_ITEM: return make_part(seg, one_in(2) ? LITERAL : NUMBER);
     case LITERAL: emit(p, LITC(chance(1024)), 1); return true;
-    case NUMBER:
-        emit(p, OPDC(any_of(&seg->numbers)), 1);
-        return true;
+    case NUMBER: return make_number(seg);
     case PLACE:
         if (seg->arrays.count == 0 || one_in(2))
             return make_part(seg, DESC_OF_NUMBER);
@@ -106,20 +151,20 @@ static bool make_part(const struct segment *seg, unsigned part)
         emit(p, part == OPDC_PAST_TABLE ? OPDC(cell) : DESC(cell), 1);
         return true;
     case UNBUILT: emit(p, chance_unbuilt(), 0); return true;
-    default: emit(p, part, 0); return true;
+    default: emit(p, part, part == TOP ? 1 : part == SND ? -1 : 0); return true;
     }
 }
 
-/* `items` is what the row has put on the stack when its last syllable comes. */
+/* `items` is the most that the row has put on the stack before its last syllable. */
 static bool make_row(const struct segment *seg, const unsigned part[ROW_ROOM], unsigned *items)
 {
-    made_row.made = made_row.items = 0;
-    *items = 0;
-    for (unsigned i = 0; i < ROW_ROOM && part[i] != 0; i++) {
-        *items = made_row.items;
+    made_row.made = made_row.items = made_row.items_before[0] = 0;
+    for (unsigned i = 0; i < ROW_ROOM && part[i] != 0; i++)
         if (!make_part(seg, part[i]))
             return false;
-    }
+    *items = 0;
+    for (unsigned i = 0; i < made_row.made; i++)
+        *items = made_row.items_before[i] > *items ? made_row.items_before[i] : *items;
     return true;
 }
 
@@ -222,22 +267,15 @@ static const struct row com_rows[] = {
     {"COM on a place", EMPTY, {PLACE, COM}},
     {"COM leaving a word", ANYWHERE, {WORD_ITEM, WORD_ITEM, COM}},
     {"COM leaving a place", ANYWHERE, {PLACE, WORD_ITEM, COM}},
+    {"COM over the word that TOP keeps", EMPTY, {WORD_ITEM, TOP, COM}},
+    {"COM over the word that SND keeps", EMPTY, {WORD_ITEM, LITERAL_OF_NUMBER, SND, LITERAL, COM}},
 };
 
-/* Operators over two words, then over one. */
-static const struct {
-    const char *name;
-    unsigned code;
-} twos[] = {{"ADD", ADD}, {"SUB", SUB}, {"MUL", MUL}, {"IDV", IDV}, {"RDV", RDV}, {"GTR", GTR},
-            {"GEQ", GEQ}, {"EQL", EQL}, {"LEQ", LEQ}, {"LSS", LSS}, {"NEQ", NEQ}, {"LND", LND},
-            {"LOR", LOR}, {"LQV", LQV}},
-  ones[] = {{"LNG", LNG}, {"MOP", MOP}, {"SSP", SSP}, {"SSN", SSN}, {"CHS", CHS}, {"TOP", TOP}};
 static const struct row two_rows[] = {
     {"with no item", EMPTY, {0}}, {"with one item", EMPTY, {WORD_ITEM}},
     {"over a place in A", ANYWHERE, {WORD_ITEM, PLACE}}, {"over a place in B", ANYWHERE, {PLACE, WORD_ITEM}}};
 static const struct row one_rows[] = {{"with no item", EMPTY, {0}}, {"over a place", ANYWHERE, {PLACE}}};
 
-#define COUNT(list) ((unsigned)(sizeof(list) / sizeof *(list)))
 enum { TWO_ROWS = 4, ONE_ROWS = 2 };
 
 static bool spoil_row(struct segment *seg, unsigned which, uint64_t *place)
@@ -274,6 +312,31 @@ static bool spoil_two(struct segment *seg, unsigned which, uint64_t *place)
 static bool spoil_one(struct segment *seg, unsigned which, uint64_t *place)
 {
     return put_operator(seg, one_rows[which % ONE_ROWS], ones[which / ONE_ROWS].code, place);
+}
+
+/* ---- what an operator leaves is no literal: not to branch by, not to store at */
+
+enum { USES = 2 };
+static const char *const use_names[USES] = {"branch by what %s leaves", "store at what %s leaves"};
+
+static bool spoil_result(struct segment *seg, unsigned which, uint64_t *place)
+{
+    struct program *p = &seg->program;
+    unsigned operator = which / USES, use = which % USES, items = 4;
+    unsigned at = chance_point(p, use == 0 ? EMPTY : ANYWHERE);
+    made_row.made = made_row.items = 0;
+    if (use == 1)
+        make_part(seg, WORD_ITEM);
+    if (operator < COUNT(twos))
+        make_result(seg, twos[operator].code, true);
+    else
+        make_result(seg, ones[operator - COUNT(twos)].code, false);
+    emit(&made_row, use == 0 ? BBW : STD, 0);
+    if (!insert(p, at, &made_row))
+        return false;
+    need_room(seg, p->items_before[at] + items);
+    *place = at + made_row.made - 1;
+    return true;
 }
 
 /* ---- more than d */
@@ -399,6 +462,13 @@ void list_code_clauses(void)
         list_operator(twos[i].name, spoil_two, two_rows, TWO_ROWS, i);
     for (unsigned i = 0; i < COUNT(ones); i++)
         list_operator(ones[i].name, spoil_one, one_rows, ONE_ROWS, i);
+    for (unsigned i = 0; i < USES * (COUNT(twos) + COUNT(ones)); i++) {
+        unsigned operator = i / USES;
+        const char *name = operator < COUNT(twos) ? twos[operator].name : ones[operator - COUNT(twos)].name;
+        char text[60];
+        snprintf(text, sizeof text, use_names[i % USES], name);
+        add_clause(34, text, spoil_result, i)->of_code = true;
+    }
     for (unsigned i = 0; i < COUNT(growing); i++)
         add_clause(34, growing[i].name, spoil_room, i)->of_code = true;
     add_clause(34, "d 0", spoil_no_room, 0)->of_code = true;

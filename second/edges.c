@@ -6,14 +6,15 @@
 enum edge {
     CODE_AT_0, CODE_AT_END, CODE_AT_32767, ONE_WORD, MOST_WORDS, ROOM_LEAST, ROOM_1, ROOM_1023, STACK_AT_END,
     S_AT_0, R_0, R_511, TABLE_64, TABLE_1024, RECORDS_1027, NO_CELL_9, STACK_TOUCHES_CODE, OVERLAP,
-    ARRAY_AT_END, ARRAY_AT_S, ARRAY_1023, TO_FIRST, BY_NONE, BY_1023, LITERAL_CARRIED, EDGES
+    ARRAY_AT_END, ARRAY_AT_S, ARRAY_1023, FLAG_AFTER_ARRAY, FLAG_BEFORE_ARRAY, TO_FIRST, BY_NONE, BY_1023, LITERAL_CARRIED, EDGES
 };
 static const char *const names[EDGES] = {
     "code from word 0 on", "code up to the end of a short core", "code up to word 32,767", "code of one word",
     "code of 1,024 words", "d as deep as the code needs", "d 1", "d 1,023", "stack up to the end of core",
     "S 0", "R 0", "R 511", "table of 64 cells", "table of 1,024 cells", "1,027 records", "cell 9 closed",
     "stack right after code", "arrays that overlap", "an array up to the end of core",
-    "an array with the word at S", "an array of 1,023 words", "a branch to the first syllable",
+    "an array with the word at S", "an array of 1,023 words", "a flag right after an array",
+    "a flag right before an array", "a branch to the first syllable",
     "a branch by 0", "a branch by 1,000 or more", "a literal carried to its branch"};
 static uint64_t seen[EDGES];
 
@@ -26,6 +27,8 @@ static bool shown_by_array(const struct segment *seg, enum edge edge)
         uint64_t first = word & 077777, size = word >> 30 & 01777;
         if ((edge == ARRAY_AT_END && first + size == seg->st.length) ||
             (edge == ARRAY_AT_S && first <= s && s < first + size) || (edge == ARRAY_1023 && size == 1023) ||
+            (edge == FLAG_AFTER_ARRAY && first + size < seg->st.length && seg->st.core[first + size] & ON(0)) ||
+            (edge == FLAG_BEFORE_ARRAY && first != 0 && seg->st.core[first - 1] & ON(0)) ||
             (edge == OVERLAP && first < end && last < first + size))
             return true;
         last = first;
@@ -70,7 +73,8 @@ static bool shown(const struct segment *seg, enum edge edge)
     case RECORDS_1027: return seg->records == 1027;
     case NO_CELL_9: return seg->kind[9] == CLOSED_CELL;
     case STACK_TOUCHES_CODE: return stack->first + 1 == code_end;
-    case OVERLAP: case ARRAY_AT_END: case ARRAY_AT_S: case ARRAY_1023: return shown_by_array(seg, edge);
+    case OVERLAP: case ARRAY_AT_END: case ARRAY_AT_S: case ARRAY_1023: case FLAG_AFTER_ARRAY:
+    case FLAG_BEFORE_ARRAY: return shown_by_array(seg, edge);
     case TO_FIRST: case BY_NONE: case BY_1023: case LITERAL_CARRIED: return shown_by_branch(seg, edge);
     case EDGES: break;
     }

@@ -185,11 +185,18 @@ static void make_store(void)
         put(LITC(stored_cell()), 1);
         put(STD, -2);
         break;
-    case 3: /* two literals, one the word and one the place, whichever is on top */
-        put(LITC(stored_cell()), 1);
-        put(LITC(stored_cell()), 1);
-        if (one_in(2))
+    case 3: /* two literals, one the word and one the place, brought on top if it is not */
+        if (one_in(2)) {
+            put(LITC(chance(1024)), 1);
+            put(LITC(stored_cell()), 1);
+        } else if (one_in(2)) {
+            put(LITC(stored_cell()), 1);
+            put(LITC(chance(1024)), 1);
             put(XCH, 0);
+        } else {
+            put(LITC(stored_cell()), 1);
+            put(DUP, 1);
+        }
         put(STD, -2);
         break;
     default:

@@ -7,12 +7,13 @@ struct wish any_wish(void)
     struct wish wish = {.cell_9 = one_in(6) ? CLOSED_CELL : NUMBER_CELL, .small = !one_in(12)};
     if (one_in(4))
         wish.first = (enum area)(CODE_AREA + chance(4));
-    if (wish.small || !one_in(4))
+    if (wish.small)
         return wish;
-    wish.last = (enum area)(CODE_AREA + chance(4));
+    wish.longest = one_in(20);
+    wish.most_records = one_in(10);
+    if (one_in(4))
+        wish.last = (enum area)(CODE_AREA + chance(4));
     wish.first = wish.first != wish.last ? wish.first : NO_AREA;
-    wish.longest = one_in(8);
-    wish.most_records = one_in(8);
     if (wish.last == CODE_AREA)
         wish.cell_9 = NUMBER_CELL;
     return wish;

@@ -16,30 +16,31 @@ static uint64_t number_flag[MOST]; /* the flag, where a number must stay one */
 /* What a step did. */
 static unsigned fetches;
 static bool written[MOST];
-static uint64_t writes[8];
+enum { WRITES = 8 };
+static uint64_t writes[WRITES];
 static unsigned write_count;
 static const char *broken;
+
+/* The first thing that is broken is told. */
+static void must(bool holds, const char *what)
+{
+    if (!holds && broken == NULL)
+        broken = what;
+}
 
 static void note_fetch(void *watcher, uint64_t address)
 {
     (void)watcher;
     fetches++;
-    if (!may_fetch[address])
-        broken = "a fetch outside the code";
+    must(may_fetch[address], "a fetch outside the code");
 }
 
 static void note_write(void *watcher, uint64_t address)
 {
-    const struct segment *seg = watcher;
-    if (planted == PLANT_WATCH) {
-        planted = PLANT_NOTHING;
-        address = seg->record[0].first;
-    }
-    if (!may_write[address])
-        broken = "a write outside the sheet";
-    if (write_count == 8)
-        broken = "more writes than a syllable has";
-    else
+    (void)watcher;
+    must(may_write[address], "a write outside the sheet");
+    must(write_count < WRITES, "more writes than a syllable has");
+    if (write_count < WRITES)
         writes[write_count++] = address;
     written[address] = true;
 }
@@ -79,10 +80,8 @@ static void look_at_core(const struct state *st)
         flags |= st->core[i] & number_flag[i];
     for (size_t i = 0; i < st->length; i++)
         changed |= (st->core[i] != last_core[i]) & !written[i];
-    if (flags != 0)
-        broken = "a number cell or a word of an array has its flag on";
-    if (changed)
-        broken = "a word changed that was not seen written";
+    must(flags == 0, "a number cell or a word of an array has its flag on");
+    must(!changed, "a word changed that was not seen written");
     for (unsigned i = 0; i < write_count; i++) {
         last_core[writes[i]] = st->core[writes[i]];
         written[writes[i]] = false;
@@ -104,47 +103,66 @@ static bool registers_kept(const struct segment *seg, const struct second_regist
 
 static struct state st;
 
-struct watched watch_segment(const struct segment *seg, uint64_t budget, uint64_t beside)
+static const struct second_watch watch = {note_fetch, note_write, NULL};
+
+static void begin(const struct segment *seg)
 {
-    /* The watcher's own business with the segment is read only. */
-    union {
-        const struct segment *seg;
-        void *watcher;
-    } as = {.seg = seg};
-    const struct second_watch watch = {note_fetch, note_write, as.watcher};
-    struct watched w = {.difference = NULL};
     st.length = seg->st.length;
     st.g = seg->st.g;
     memcpy(st.core, seg->st.core, sizeof *st.core * st.length);
     memcpy(last_core, st.core, sizeof *st.core * st.length);
     read_rights(seg);
     broken = NULL;
-    while (w.steps < budget && w.difference == NULL) {
-        uint64_t number;
-        fetches = write_count = 0;
-        if (w.beside < beside) {
-            struct verdict v = both_step_watched(&st, &watch);
-            number = v.number;
-            w.difference = v.difference;
-            w.beside++;
-        } else {
-            number = (uint64_t)second_step_watched(st.core, st.length, &st.g, &watch);
-        }
-        look_at_core(&st);
-        if (fetches != 1)
-            broken = "not one fetch";
-        if (!may_answer(number))
-            broken = "a stop that no passed segment has";
-        if (!registers_kept(seg, &st.g))
-            broken = "a register that is not the sheet's";
-        if (w.difference == NULL)
-            w.difference = broken;
+}
+
+/* A planted write is one into the code. */
+static void plant(const struct segment *seg)
+{
+    if (planted != PLANT_WATCH)
+        return;
+    planted = PLANT_NOTHING;
+    note_write(NULL, seg->record[0].first);
+}
+
+/* One step of the second machine, of the cabinet too if it is asked beside. */
+static uint64_t one_step(const struct segment *seg, bool beside)
+{
+    uint64_t number;
+    fetches = write_count = 0;
+    if (beside) {
+        struct verdict v = both_step_watched(&st, &watch);
+        number = v.number;
+        must(v.difference == NULL, v.difference);
+    } else {
+        number = (uint64_t)second_step_watched(st.core, st.length, &st.g, &watch);
+    }
+    plant(seg);
+    look_at_core(&st);
+    must(fetches == 1, "not one fetch");
+    must(may_answer(number), "a stop that no passed segment has");
+    must(registers_kept(seg, &st.g), "a register that is not the sheet's");
+    return number;
+}
+
+/* After COM a segment may go on, unless that was its last syllable. */
+static bool goes_on(uint64_t number)
+{
+    return number == 0 || (number == 17 && st.g.C < st.length && may_fetch[st.g.C]);
+}
+
+struct watched watch_segment(const struct segment *seg, uint64_t budget, uint64_t beside)
+{
+    struct watched w = {.difference = NULL};
+    begin(seg);
+    while (w.steps < budget) {
+        uint64_t number = one_step(seg, w.steps < beside);
+        w.beside += w.steps < beside;
+        w.difference = broken;
         if (w.difference != NULL)
             return w;
         w.steps += number == 0 || number == 17;
         stops_seen[number] += number != 0;
-        /* After COM it goes on, unless that was its last syllable. */
-        if (number != 0 && (number != 17 || !may_fetch[st.g.C % st.length] || st.g.C >= st.length))
+        if (!goes_on(number))
             return w;
     }
     stops_seen[0]++;
