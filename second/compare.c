@@ -57,6 +57,7 @@ static unsigned compare_sheets(uint64_t eighth)
     failures += report("segments that pass", 2 * eighth, group_segments(2 * eighth));
     failures += report("posts", eighth, group_post(eighth));
     failures += report("hand-out", eighth, group_hand_out(eighth));
+    failures += report("stored sheets", sheet_cases_all(), group_sheet_cases());
     return failures + report("neighbouring arrays", neighbours_all(), group_neighbours());
 }
 

@@ -86,6 +86,9 @@ unsigned group_segments(uint64_t count);
 unsigned stops_missing(void);
 unsigned group_post(uint64_t count);
 unsigned group_hand_out(uint64_t count);
+/* Stored: paper 01's example; neighbouring arrays. */
+unsigned group_sheet_cases(void);
+unsigned sheet_cases_all(void);
 unsigned group_neighbours(void);
 unsigned neighbours_all(void);
 
