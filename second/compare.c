@@ -55,6 +55,7 @@ static unsigned compare_sheets(uint64_t eighth)
     unsigned failures = report("sheets", 2 * eighth, group_sheets(2 * eighth));
     failures += report("sheets changed anywhere", eighth, group_mutations(eighth));
     failures += report("segments that pass", 2 * eighth, group_segments(2 * eighth));
+    failures += report("controls of the watch", controls_all(), group_controls());
     failures += report("posts", eighth, group_post(eighth));
     failures += report("hand-out", eighth, group_hand_out(eighth));
     failures += report("stored sheets", sheet_cases_all(), group_sheet_cases());

@@ -84,6 +84,8 @@ unsigned group_mutations(uint64_t count);
 /* Segments that pass, step by step and by post; posts that are refused. */
 unsigned group_segments(uint64_t count);
 unsigned stops_missing(void);
+unsigned group_controls(void);
+unsigned controls_all(void);
 unsigned group_post(uint64_t count);
 unsigned group_hand_out(uint64_t count);
 /* Stored: paper 01's example; neighbouring arrays. */

@@ -33,7 +33,7 @@ unsigned stops_missing(void)
 /* ---- segments that pass */
 
 /* A step looks at the whole core, so a large core makes fewer of them. */
-enum { LARGE = 3000, BESIDE = 20 };
+enum { LARGE = 3000, BESIDE = 40 };
 
 static uint64_t chance_budget(void)
 {

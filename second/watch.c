@@ -4,18 +4,16 @@
  */
 #include "watch.h"
 
-#include <stdio.h>
 #include <string.h>
 
 uint64_t stops_seen[22];
 
 /* What the sheet lets the segment do with each word. */
 static bool may_fetch[MOST], may_write[MOST];
-static uint64_t number_flag[MOST]; /* the flag, where a number must stay one */
+static bool is_number[MOST]; /* a number cell or a word of an array */
 
 /* What a step did. */
 static unsigned fetches;
-static bool written[MOST];
 enum { WRITES = 8 };
 static uint64_t writes[WRITES];
 static unsigned write_count;
@@ -42,7 +40,6 @@ static void note_write(void *watcher, uint64_t address)
     must(write_count < WRITES, "more writes than a syllable has");
     if (write_count < WRITES)
         writes[write_count++] = address;
-    written[address] = true;
 }
 
 /* Words S+1 to S+d, number cells, and the words of the arrays. */
@@ -51,8 +48,7 @@ static void read_rights(const struct segment *seg)
     size_t length = seg->st.length;
     memset(may_fetch, 0, length);
     memset(may_write, 0, length);
-    memset(written, 0, length);
-    memset(number_flag, 0, sizeof *number_flag * length);
+    memset(is_number, 0, length);
     const struct record *code = &seg->record[0], *stack = &seg->record[1];
     for (unsigned i = 0; i < code->count; i++)
         may_fetch[code->first + i] = true;
@@ -64,28 +60,22 @@ static void read_rights(const struct segment *seg)
         uint64_t count = seg->kind[cell] == ARRAY_CELL ? word >> 30 & 01777 : seg->kind[cell] == NUMBER_CELL;
         for (uint64_t i = first; i < first + count; i++) {
             may_write[i] = true;
-            number_flag[i] = ON(0);
+            is_number[i] = true;
         }
     }
 }
 
 static uint64_t last_core[MOST];
 
-/* What changed was written before the watcher's eyes, and every number is one still. */
+/* What changed was written before the watcher's eyes; so every number that is not written is one still. */
 static void look_at_core(const struct state *st)
 {
-    uint64_t flags = 0;
-    bool changed = false;
-    for (size_t i = 0; i < st->length; i++)
-        flags |= st->core[i] & number_flag[i];
-    for (size_t i = 0; i < st->length; i++)
-        changed |= (st->core[i] != last_core[i]) & !written[i];
-    must(flags == 0, "a number cell or a word of an array has its flag on");
-    must(!changed, "a word changed that was not seen written");
     for (unsigned i = 0; i < write_count; i++) {
-        last_core[writes[i]] = st->core[writes[i]];
-        written[writes[i]] = false;
+        uint64_t at = writes[i];
+        last_core[at] = st->core[at];
+        must(!is_number[at] || (st->core[at] & ON(0)) == 0, "a number cell or a word of an array has its flag on");
     }
+    must(memcmp(last_core, st->core, sizeof *last_core * st->length) == 0, "a word changed that was not seen written");
 }
 
 static bool may_answer(uint64_t number)
@@ -113,6 +103,8 @@ static void begin(const struct segment *seg)
     memcpy(last_core, st.core, sizeof *st.core * st.length);
     read_rights(seg);
     broken = NULL;
+    for (size_t i = 0; i < st.length; i++)
+        must(!is_number[i] || (st.core[i] & ON(0)) == 0, "a flag is on at the start");
 }
 
 /* A planted write is one into the code. */
