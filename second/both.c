@@ -92,28 +92,30 @@ static const char *difference(const struct state *st, uint64_t ours, uint64_t se
     return NULL;
 }
 
-/* A planted difference is a wrong answer of the cabinet. */
+/* A planted difference is a wrong answer of the cabinet. The others are planted elsewhere. */
 static void plant(const struct state *st, uint64_t *number, uint64_t *completed)
 {
     switch (planted) {
-    case PLANT_NOTHING: break;
     case PLANT_NUMBER: *number ^= 1; break;
     case PLANT_REGISTER: row_bytes[WORD * FIFTY_FIVE_MSFF + 5] ^= 1; break;
     case PLANT_CORE: core_bytes[WORD * (st->length - 1) + 5] ^= 1; break;
     case PLANT_COMPLETED: *completed ^= 1; break;
+    default: return;
     }
     planted = PLANT_NOTHING;
 }
 
-struct verdict both_step(struct state *st)
+struct verdict both_step_watched(struct state *st, const struct second_watch *watch)
 {
     take_over(st);
     uint64_t ours = fifty_five_step(core_bytes, WORD * st->length, row_bytes, ROW), none = 0;
-    struct verdict v = {.number = (uint64_t)second_step(st->core, st->length, &st->g)};
+    struct verdict v = {.number = (uint64_t)second_step_watched(st->core, st->length, &st->g, watch)};
     plant(st, &ours, &none);
     v.difference = difference(st, ours, v.number);
     return v;
 }
+
+struct verdict both_step(struct state *st) { return both_step_watched(st, NULL); }
 
 struct verdict both_run(struct state *st, uint64_t budget)
 {

@@ -1,7 +1,8 @@
 /*
  * compare COUNT SEED [--plant WHAT]: the cabinet beside the second machine, on stored cases and on
- * COUNT cases by chance. Ends with status 0 if they agree everywhere and every reachable pair of
- * operator and stop was reached.
+ * COUNT cases by chance, and on COUNT/4 sheets and as many segments. Ends with status 0 if they agree
+ * everywhere and every reachable pair of operator and stop, every clause of the inspector and every stop
+ * of a passed segment was reached.
  */
 #include "compare.h"
 
@@ -11,7 +12,7 @@
 
 static int usage(void)
 {
-    fprintf(stderr, "compare COUNT SEED [--plant number|register|core|completed]\n");
+    fprintf(stderr, "compare COUNT SEED [--plant nothing|number|register|core|completed|verdict|place|watch|post|bounds]\n");
     return 2;
 }
 
@@ -22,14 +23,15 @@ static bool read_number(const char *text, uint64_t *number)
     return *text != '\0' && *end == '\0';
 }
 
-/* One planted difference: the next case that can show it must be found to differ. */
+/* One planted difference: the next case that can show it must be found to differ. With `nothing` none may. */
 static bool read_plant(const char *what)
 {
-    static const char *const names[] = {"number", "register", "core", "completed"};
+    static const char *const names[] = {"number", "register", "core",  "completed", "verdict",
+                                        "place",  "watch",    "post", "bounds"};
     for (unsigned i = 0; i < sizeof names / sizeof *names; i++)
         if (strcmp(what, names[i]) == 0)
             planted = (enum planted)(PLANT_NUMBER + i);
-    return planted != PLANT_NOTHING;
+    return planted != PLANT_NOTHING || strcmp(what, "nothing") == 0;
 }
 
 static unsigned report(const char *group, uint64_t count, unsigned failures)
@@ -39,6 +41,37 @@ static unsigned report(const char *group, uint64_t count, unsigned failures)
     return failures;
 }
 
+static unsigned compare_machines(uint64_t count, uint64_t eighth)
+{
+    unsigned failures = report("run", 2 * eighth, group_run(2 * eighth));
+    failures += report("step", count - 4 * eighth, group_step(count - 4 * eighth));
+    failures += report("files", eighth, group_files(eighth));
+    failures += report("malformed", eighth, group_malformed(eighth));
+    return failures + report("stored cases", cases_all(), group_cases());
+}
+
+static unsigned compare_sheets(uint64_t eighth)
+{
+    unsigned failures = report("sheets", 2 * eighth, group_sheets(2 * eighth));
+    failures += report("sheets changed anywhere", eighth, group_mutations(eighth));
+    failures += report("segments that pass", 2 * eighth, group_segments(2 * eighth));
+    failures += report("controls of the watch", controls_all(), group_controls());
+    failures += report("posts", eighth, group_post(eighth));
+    failures += report("hand-out", eighth, group_hand_out(eighth));
+    failures += report("stored sheets", sheet_cases_all(), group_sheet_cases());
+    return failures + report("neighbouring arrays", neighbours_all(), group_neighbours());
+}
+
+/* What had to be reached. A few cases reach too little, so a plant is not judged by it. */
+static unsigned report_reached(void)
+{
+    unsigned missing = report("pairs of operator and stop", pairs_all(), pairs_missing());
+    missing += report("clauses of the inspector", clauses_all(), clauses_missing());
+    missing += report("numbers with enough places", 6, places_missing());
+    missing += report("bounds that pass", edges_all(), edges_missing());
+    return missing + report("stops of segments", 10, stops_missing());
+}
+
 int main(int argc, char **argv)
 {
     uint64_t count, seed;
@@ -46,14 +79,10 @@ int main(int argc, char **argv)
         return usage();
     if (argc != 3 && (argc != 5 || strcmp(argv[3], "--plant") != 0 || !read_plant(argv[4])))
         return usage();
+    bool differences_only = argc == 5;
     uint64_t eighth = count / 8;
     chance_seed(seed);
-    unsigned failures = report("run", 2 * eighth, group_run(2 * eighth));
-    failures += report("step", count - 4 * eighth, group_step(count - 4 * eighth));
-    failures += report("files", eighth, group_files(eighth));
-    failures += report("malformed", eighth, group_malformed(eighth));
-    unsigned missing = pairs_missing();
-    failures += report("pairs of operator and stop", pairs_all(), missing);
-    failures += report("stored cases", cases_all(), group_cases());
-    return failures != 0;
+    unsigned failures = compare_machines(count, eighth) + compare_sheets(eighth);
+    unsigned missing = report_reached();
+    return failures + (differences_only ? 0 : missing) != 0;
 }

@@ -24,7 +24,10 @@ struct state {
 /* ---- both.c: one case on both machines */
 
 /* A difference that is planted in the next case, to see that it is caught. */
-enum planted { PLANT_NOTHING, PLANT_NUMBER, PLANT_REGISTER, PLANT_CORE, PLANT_COMPLETED };
+enum planted {
+    PLANT_NOTHING, PLANT_NUMBER, PLANT_REGISTER, PLANT_CORE, PLANT_COMPLETED,
+    PLANT_VERDICT, PLANT_PLACE, PLANT_WATCH, PLANT_POST, PLANT_BOUNDS
+};
 extern enum planted planted;
 
 void words_to_bytes(const uint64_t *words, size_t n, uint8_t *bytes);
@@ -37,6 +40,7 @@ struct verdict {
     const char *difference;
 };
 struct verdict both_step(struct state *st);
+struct verdict both_step_watched(struct state *st, const struct second_watch *watch);
 struct verdict both_run(struct state *st, uint64_t budget);
 
 /* ---- chance.c: numbers, words and states by chance */
@@ -69,5 +73,25 @@ unsigned group_files(uint64_t count);
 unsigned group_malformed(uint64_t count);
 unsigned group_cases(void);
 unsigned cases_all(void);
+/* Sheets that break a clause, or pass; sheets and cores changed anywhere. */
+unsigned group_sheets(uint64_t count);
+unsigned clauses_all(void);
+unsigned clauses_missing(void);
+unsigned places_missing(void);
+unsigned edges_all(void);
+unsigned edges_missing(void);
+unsigned group_mutations(uint64_t count);
+/* Segments that pass, step by step and by post; posts that are refused. */
+unsigned group_segments(uint64_t count);
+unsigned stops_missing(void);
+unsigned group_controls(void);
+unsigned controls_all(void);
+unsigned group_post(uint64_t count);
+unsigned group_hand_out(uint64_t count);
+/* Stored: paper 01's example; neighbouring arrays. */
+unsigned group_sheet_cases(void);
+unsigned sheet_cases_all(void);
+unsigned group_neighbours(void);
+unsigned neighbours_all(void);
 
 #endif

@@ -1,0 +1,118 @@
+/* Segments that pass, on both machines: step by step, and by one post. */
+#include "both_sheets.h"
+#include "clauses.h"
+#include "watch.h"
+
+#include <stdio.h>
+
+static struct segment seg;
+
+static unsigned failed(const char *group, uint64_t i, const char *what)
+{
+    printf("compare: difference: %s case %llu: %s\n", group, (unsigned long long)i, what);
+    return 1;
+}
+
+/* ---- the stops */
+
+static uint64_t stops_posted[22];
+
+unsigned stops_missing(void)
+{
+    static const unsigned stops[] = {0, 15, 17, 20, 21};
+    unsigned missing = 0;
+    for (unsigned i = 0; i < 5; i++) {
+        printf("stop %2u: watched %llu, posted %llu\n", stops[i], (unsigned long long)stops_seen[stops[i]],
+               (unsigned long long)stops_posted[stops[i]]);
+        missing += stops_seen[stops[i]] == 0;
+        missing += stops_posted[stops[i]] == 0;
+    }
+    return missing;
+}
+
+/* ---- segments that pass */
+
+/* A step looks at the whole core, so a large core makes fewer of them. */
+enum { LARGE = 3000, BESIDE = 40 };
+
+static uint64_t chance_budget(void)
+{
+    if (seg.st.length > LARGE)
+        return chance(60);
+    return one_in(4) ? chance(3000) : chance(200);
+}
+
+unsigned group_segments(uint64_t count)
+{
+    uint64_t steps = 0, beside = 0, looping = 0;
+    unsigned failures = 0;
+    for (uint64_t i = 0; i < count; i++) {
+        struct wish wish = any_wish();
+        make_segment(&seg, &wish);
+        note_edges(&seg);
+        struct inspected v = both_inspect(&seg);
+        if (v.difference != NULL || v.number != 0) {
+            failures += failed("segments", i, v.difference != NULL ? v.difference : "a segment that does not pass");
+            continue;
+        }
+        uint64_t budget = chance_budget();
+        struct watched w = watch_segment(&seg, budget, seg.st.length > LARGE ? 4 : one_in(64) ? budget : BESIDE);
+        if (w.difference != NULL)
+            failures += failed("segments", i, w.difference);
+        steps += w.steps;
+        beside += w.beside;
+        looping += w.steps > seg.program.made;
+        struct posted posted = both_post(&seg, one_in(16) ? chance(20000) : budget, ROW);
+        if (posted.difference != NULL)
+            failures += failed("segments", i, posted.difference);
+        else
+            stops_posted[posted.stop]++;
+    }
+    printf("segments: %llu steps watched, %llu of them beside the cabinet; %llu segments looped\n",
+           (unsigned long long)steps, (unsigned long long)beside, (unsigned long long)looping);
+    return failures;
+}
+
+/* ---- posts that are refused: 4, 1, 3, 30 to 35, 5, in this order */
+
+enum { REFUSALS = 37 };
+static uint64_t refused[REFUSALS];
+
+static const unsigned all_refusals[] = {4, 1, 3, 30, 31, 32, 33, 34, 35, 5};
+
+unsigned group_post(uint64_t count)
+{
+    unsigned failures = 0;
+    for (uint64_t i = 0; i < count; i++) {
+        size_t row_length = one_in(6) ? (one_in(2) ? chance(ROW) : ROW + 1 + chance(ROW - 1)) : ROW;
+        uint64_t budget = one_in(6) ? 1000001 + (one_in(2) ? 0 : chance(UINT64_MAX - 1000001)) : chance(100);
+        uint64_t expected = 0, place = 0;
+        if (one_in(3)) {
+            struct wish wish = any_wish();
+            make_segment(&seg, &wish);
+        } else {
+            struct clause *broken = &clause[chance(clauses)];
+            place = make_damaged(&seg, broken);
+            expected = broken->number;
+        }
+        if (expected != 4 && expected != 1 && row_length != ROW) {
+            expected = 3;
+            place = 0;
+        }
+        if (expected == 0 && budget > 1000000)
+            expected = 5;
+        struct posted posted = both_post(&seg, budget, row_length);
+        if (posted.difference != NULL)
+            failures += failed("post", i, posted.difference);
+        else if (posted.number != expected || posted.place != place)
+            failures += failed("post", i, "not the number and place it was made for");
+        else
+            refused[posted.number]++;
+    }
+    for (unsigned i = 0; i < sizeof all_refusals / sizeof *all_refusals; i++) {
+        printf("post refused with %2u: %llu\n", all_refusals[i], (unsigned long long)refused[all_refusals[i]]);
+        if (refused[all_refusals[i]] == 0)
+            failures += failed("post", all_refusals[i], "a refusal that was never met");
+    }
+    return failures;
+}
