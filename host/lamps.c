@@ -51,7 +51,7 @@ static void ask_run(struct panel *panel)
 {
     char line[PANEL_NAME_ROOM];
 
-    if (!ask(panel, " run how many syllables (decimal)? ", line, sizeof line))
+    if (!ask(panel, " run how many (decimal)? ", line, sizeof line))
         panel_say(panel, "no run");
     else
         panel_run(panel, line);
@@ -61,7 +61,7 @@ static void ask_set(struct panel *panel)
 {
     char line[PANEL_NAME_ROOM];
 
-    if (!ask(panel, " set (NAME OCTAL, A empty)? ", line, sizeof line))
+    if (!ask(panel, " set NAME OCTAL? ", line, sizeof line))
         panel_say(panel, "nothing set");
     else
         panel_set(panel, line);
@@ -71,7 +71,7 @@ static void ask_load(struct panel *panel)
 {
     char line[PANEL_NAME_ROOM];
 
-    if (!ask(panel, " load core file (Enter: the same again)? ", line, sizeof line))
+    if (!ask(panel, " load file (Enter: again)? ", line, sizeof line))
         panel_say(panel, "nothing loaded");
     else {
         if (!line[0])
@@ -84,8 +84,8 @@ static void ask_write(struct panel *panel)
 {
     char line[PANEL_NAME_ROOM], yes[8];
 
-    if (!ask(panel, " write core to file? ", line, sizeof line) || !line[0] ||
-        (file_is_there(line) && (!ask(panel, " that file is there; replace it (yes)? ", yes, sizeof yes) ||
+    if (!ask(panel, " write to file? ", line, sizeof line) || !line[0] ||
+        (file_is_there(line) && (!ask(panel, " it is there; replace (yes)? ", yes, sizeof yes) ||
                                  strcasecmp(yes, "yes") != 0)))
         panel_say(panel, "nothing written");
     else

@@ -16,7 +16,7 @@ const char *number_text(uint64_t number)
     case FIFTY_FIVE_FLAG: return "flag on where an operand is due, or off where a control word is";
     case FIFTY_FIVE_INDEX: return "index below 0 or not below the size";
     case FIFTY_FIVE_COMMUNICATE: return "communicate";
-    case FIFTY_FIVE_NOT_BUILT: return "not built: an operator or a mode that this machine has not";
+    case FIFTY_FIVE_NOT_BUILT: return "not built: this machine has no such operator or mode";
     case FIFTY_FIVE_NOT_WHOLE: return "a number that is not whole, or past 39 bits";
     case FIFTY_FIVE_ZERO_DIVISOR: return "zero divisor";
     default: return "a number that this panel does not know";

@@ -101,7 +101,7 @@ static void lay_out(struct screen *screen, const struct panel *panel)
 
     terminal_size(&rows, &columns);
     if (is_small(rows, columns))
-        screen_small(screen, panel, rows - 1, columns);
+        screen_small(screen, panel, rows - 1, columns < SCREEN_MOST_COLUMNS ? columns : SCREEN_MOST_COLUMNS);
     else
         screen_lamps(screen, panel);
 }

@@ -60,6 +60,7 @@ int panel_load(struct panel *panel, const char *name)
     const size_t filled = PANEL_FILLED_WORDS * FIFTY_FIVE_WORD_BYTES;
     size_t length = 0;
     const char *why = file_read(name, file, sizeof file, &length);
+    size_t words = length / FIFTY_FIVE_WORD_BYTES;
     uint64_t number;
 
     if (why) {
@@ -68,7 +69,7 @@ int panel_load(struct panel *panel, const char *name)
     }
     number = load_bytes(panel, file, length);
     if (number != FIFTY_FIVE_WENT_ON) {
-        panel_say(panel, "refused with %" PRIu64 ": %s: %zu bytes: %.130s", number,
+        panel_say(panel, "refused with %" PRIu64 ": %s: %zu bytes in %.130s", number,
                   number_text(number), length, name);
         return 0;
     }
@@ -80,7 +81,7 @@ int panel_load(struct panel *panel, const char *name)
     memcpy(panel->row, panel->start, sizeof panel->row);
     panel->completed = 0;
     snprintf(panel->file, sizeof panel->file, "%s", name);
-    panel_say(panel, "loaded: %zu words%s", length / FIFTY_FIVE_WORD_BYTES,
+    panel_say(panel, "loaded: %zu word%s%s", words, words == 1 ? "" : "s",
               panel->length > length ? ", filled up with 0" : "");
     return 1;
 }
@@ -128,7 +129,7 @@ void panel_run(struct panel *panel, const char *count)
     uint64_t budget, number, done = 0;
 
     if (!read_decimal(count, &budget)) {
-        panel_say(panel, "not a count: %.60s (decimal digits)", count);
+        panel_say(panel, "not a decimal count: '%.60s'", count);
         return;
     }
     number = fifty_five_run(panel->core, panel->length, panel->row, sizeof panel->row, budget, &done);

@@ -122,12 +122,12 @@ void panel_set(struct panel *panel, const char *text)
     split(text, name, value, sizeof name);
     found = find_register(name);
     if (found < 0) {
-        panel_say(panel, "no such register: %.20s (A, B, S, F, C, R, L, SALF, MSFF)", name);
+        panel_say(panel, "no such register: '%.20s' (A, B, S, F, C, R, L, SALF, MSFF)", name);
         return;
     }
     memcpy(row, panel->row, sizeof row);
     if (!put_value(row, registers[found].which, value)) {
-        panel_say(panel, "not a value for %s: %.30s (octal, at most 48 bits)", registers[found].name, value);
+        panel_say(panel, "not an octal value of 48 bits for %s: '%.30s'", registers[found].name, value);
         return;
     }
     number = check_row(panel, row);
@@ -137,5 +137,5 @@ void panel_set(struct panel *panel, const char *text)
         return;
     }
     memcpy(panel->row, row, sizeof row);
-    panel_say(panel, "%s is set", registers[found].name);
+    panel_say(panel, "%s := %.20s", registers[found].name, value);
 }

@@ -185,17 +185,36 @@ static void put_stack(struct screen *screen, const struct panel *panel, int last
         next_line(screen);
 }
 
+/* How much of a text goes in a row: all, or up to the last space in it. */
+static int fold(const char *text, int columns)
+{
+    int length = (int)strlen(text), at = columns;
+
+    if (length <= columns)
+        return length;
+    while (at > 0 && text[at] != ' ')
+        at--;
+    return at > 0 ? at : columns;
+}
+
+/* What is left for the next rows. */
+static const char *past_fold(const char *text, int columns)
+{
+    text += fold(text, columns);
+    return text + (*text == ' ');
+}
+
 /* What was said takes two rows if one is too short. */
 static void put_said_below(struct screen *screen, const char *said)
 {
     const int most = SCREEN_COLUMNS - AT_NAME;
-    int folded = strlen(said) > (size_t)most;
-
     char *line = next_line(screen);
 
-    if (folded)
-        put(line, AT_NAME, "%.*s", most, said);
-    put(next_line(screen), AT_NAME, "%.*s", most, folded ? said + most : said);
+    if (*past_fold(said, most)) {
+        put(line, AT_NAME, "%.*s", fold(said, most), said);
+        said = past_fold(said, most);
+    }
+    put(next_line(screen), AT_NAME, "%.*s", most, said);
 }
 
 void screen_lamps(struct screen *screen, const struct panel *panel)
@@ -216,15 +235,18 @@ void screen_lamps(struct screen *screen, const struct panel *panel)
 
 /* ---- a small window */
 
-/* What was said comes before the rest: it is folded over the last rows, and those above give way. */
+/* What was said comes before the rest: folded over the last rows, it leaves one row above, if any. */
 static void put_said(struct screen *screen, const struct panel *panel, int rows, int columns)
 {
-    int length = (int)strlen(panel->said), folds = length / columns + 1;
+    const char *said = panel->said;
+    int folds = 0;
 
+    for (const char *at = said; *at; at = past_fold(at, columns))
+        folds++;
     if (screen->rows > rows - folds)
-        screen->rows = rows > folds ? rows - folds : 0;
-    for (int from = 0; from <= length && screen->rows < rows; from += columns)
-        put(next_line(screen), 0, "%.*s", columns, panel->said + from);
+        screen->rows = rows > folds + 1 ? rows - folds : rows > 1;
+    for (; *said && screen->rows < rows; said = past_fold(said, columns))
+        put(next_line(screen), 0, "%.*s", fold(said, columns), said);
 }
 
 void screen_small(struct screen *screen, const struct panel *panel, int rows, int columns)
