@@ -156,6 +156,8 @@ void paint_help(void)
             return;
         show(&page, from + page.rows < help.rows ? " any key: more" : " any key: back", 0);
         key = terminal_key();
+        if (key == 'q' || key == KEY_ESCAPE || key == 4)
+            return;
         if (key != KEY_REDRAW)
             from += page.rows;
     }

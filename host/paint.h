@@ -10,7 +10,7 @@ void paint_ascii(void);
 void paint_panel(const struct panel *panel);
 void paint_question(const struct panel *panel, const char *question, const char *line);
 
-/* Page by page, till all was shown or a key of an end came. */
+/* Page by page, till all was shown or q, Esc or Ctrl-D came. */
 void paint_help(void);
 
 /* Prints the screen with no control codes; answers whether it could. */

@@ -2,6 +2,7 @@
 #define _DEFAULT_SOURCE
 #include "child.h"
 
+#include <errno.h>
 #include <fcntl.h>
 #include <poll.h>
 #include <signal.h>
@@ -66,6 +67,7 @@ int child_start(struct child *child, const char *arguments)
     child->slave = open(ptsname(child->master), O_RDWR | O_NOCTTY);
     if (child->slave < 0 || tcgetattr(child->slave, &before))
         return 0;
+    fcntl(child->master, F_SETFL, O_NONBLOCK);
     child_window(child, child->screen.rows, child->screen.columns);
     screen_clear(&child->screen);
     fflush(stdout);
@@ -99,7 +101,20 @@ void child_settle(struct child *child, int quiet)
 
 int child_type(struct child *child, const char *keys, size_t length)
 {
-    return write(child->master, keys, length) == (ssize_t)length;
+    long long limit = clock_now() + LIMIT;
+
+    while (length > 0 && clock_now() < limit) {
+        ssize_t taken = write(child->master, keys, length);
+        if (taken < 0 && errno != EAGAIN)
+            return 0;
+        if (taken <= 0) {
+            child_pump(child, 5);
+            continue;
+        }
+        keys += taken;
+        length -= (size_t)taken;
+    }
+    return length == 0;
 }
 
 int child_has_ended(const struct child *child)

@@ -27,7 +27,7 @@ int child_pump(struct child *child, int wait);
 /* Takes output till none comes for so many ms. */
 void child_settle(struct child *child, int quiet);
 
-/* Types keys; answers whether the terminal took them. */
+/* Types keys, taking output meanwhile; answers whether the terminal took them. */
 int child_type(struct child *child, const char *keys, size_t length);
 
 /* Whether it has ended; its status is still to be asked. */

@@ -7,7 +7,7 @@
  *   start ARGUMENTS       starts PROGRAM... with these, divided at spaces
  *   type TEXT             keys; \n, \e, \xHH as in C
  *   screen NAME           the screen is that of NAME.screen beside the session (--make: writes it)
- *   chance SEED COUNT     keys and windows by chance; a program that quits is started again
+ *   chance SEED COUNT     keys and windows by chance, then Ctrl-D till it ends; if it ends before, it is started again
  *   signal NAME           HUP, INT, QUIT or TERM
  *   hangup                the terminal goes away
  *   ends STATUS           the program ends so, by itself
@@ -229,11 +229,12 @@ static void chance_key(void)
 /* A program that quits by a key must end well; it is then started again. */
 static void check_chance(int count)
 {
+    long long limit;
     int rows = child.screen.rows, columns = child.screen.columns, status = 0, restored = 1;
 
     for (int i = 0; i < count && status == 0 && restored; i++) {
         chance_key();
-        child_pump(&child, 2);
+        child_settle(&child, 1);
         if (!child_has_ended(&child))
             continue;
         status = child_wait(&child);
@@ -245,7 +246,11 @@ static void check_chance(int count)
     result(status == 0 && restored, "keys by chance: ended with %#x%s", (unsigned)status,
            restored ? "" : ", the terminal not given back as it was");
     child_window(&child, rows, columns);
-    child.screen.wrong = NULL;
+    limit = clock_now() + LIMIT;
+    while (!child_has_ended(&child) && clock_now() < limit) {
+        type("\004", 1);
+        child_settle(&child, QUIET);
+    }
 }
 
 /* ---- lines */
