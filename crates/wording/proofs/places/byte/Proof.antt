@@ -1,0 +1,27 @@
+use lib.ListN.{List·getD-eq-default}
+use mathlib.Core.Path.{_≡_, refl, sym, _∙_, ap}
+use native.Mathlib.Omega.{arith}
+use borrow.Author.Needs.{needs}
+use Rattle.wording.proofs.places.byte.Statement.{statement}
+use Rattle.wording.proofs.places.byte.Tie as tie
+use Rattle.wording.proofs.places.byte.Reads as reads
+use Rattle.wording.proofs.places.byte.Lts as lts
+
+-- src/places.rt:18:16
+shared-slice-read-result : tie.Need-shared-slice-read-result
+shared-slice-read-result c = search needs
+
+-- src/places.rt:18:16
+cast-result : tie.Need-cast-result
+cast-result c = omega (arith, c .shared-slice-known .given (c .before .before .args .at))
+
+-- src/places.rt:18:9
+returns : tie.Need-returns
+returns c = (refl, omega (arith, c .shared-slice-known .given (c .before .before .args .at)))
+
+-- src/places.rt:14:1
+returns-2 : tie.Need-returns-2
+returns-2 c = (sym (List·getD-eq-default (c .before .args .sheet .now) 0 {n = c .before .args .at} (c .if1 .left)), search needs)
+
+pub byte-spec : {M : Type 1} → statement M
+byte-spec = tie.close (tie.spec shared-slice-read-result cast-result returns returns-2)

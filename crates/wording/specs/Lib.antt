@@ -1,0 +1,5 @@
+pub mod Commands
+pub mod Names
+pub mod Numbers
+pub mod Places
+pub mod Results

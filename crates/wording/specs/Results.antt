@@ -1,0 +1,19 @@
+-- What a run is told by.
+-- Assumes nothing.
+use Prim.Native.Nat.{ℕ, _+_, _*_}
+use mathlib.Core.List.{List}
+use lib.Dec.{eqb}
+use lib.ListN.{getD}
+use Rattle.tape.specs.Files.{choose}
+
+-- "COM: A full, store it at 64R+9"
+abbrev pub communicatedOf : List ℕ → ℕ → ℕ
+communicatedOf core r = getD core (64 * r + 9) 0
+
+-- A run that communicated or spent its budget, or one that stopped otherwise.
+unfoldable pub stopStatus : ℕ → ℕ
+stopStatus stop = choose (eqb stop 0) 0 (choose (eqb stop 17) 0 3)
+
+-- 1 for a refusal by number, else by the stop.
+unfoldable pub statusOf : ℕ → ℕ → ℕ
+statusOf number stop = choose (eqb number 0) (stopStatus stop) 1
