@@ -110,8 +110,11 @@ static void on_redraw(int signal_number)
     wake();
 }
 
-/* A fault: gives the terminal back, then lets the fault end the program. */
-static void on_fault(int signal_number)
+/*
+ * A fault: gives the terminal back, then lets the fault end the program. An emulator may enter a
+ * handler with the stack 8 bytes out of line, which libc does not bear.
+ */
+__attribute__((force_align_arg_pointer)) static void on_fault(int signal_number)
 {
     signal(signal_number, SIG_DFL);
     terminal_close();
