@@ -252,21 +252,24 @@ static void put_said(struct screen *screen, const struct panel *panel, int rows,
 void screen_small(struct screen *screen, const struct panel *panel, int rows, int columns)
 {
     char text[32];
+    const uint64_t a = panel_register(panel, FIFTY_FIVE_A), b = panel_register(panel, FIFTY_FIVE_B);
+    const uint64_t s = panel_register(panel, FIFTY_FIVE_S), f = panel_register(panel, FIFTY_FIVE_F);
+    const uint64_t c = panel_register(panel, FIFTY_FIVE_C), l = panel_register(panel, FIFTY_FIVE_L);
+    const uint64_t r = panel_register(panel, FIFTY_FIVE_R);
+    const uint64_t salf = panel_register(panel, FIFTY_FIVE_SALF), msff = panel_register(panel, FIFTY_FIVE_MSFF);
+    const char *a_mark = panel_register(panel, FIFTY_FIVE_A_FULL) ? "full " : "empty";
+    const char *b_mark = panel_register(panel, FIFTY_FIVE_B_FULL) ? "full " : "empty";
 
     screen->rows = 0;
     next_syllable(panel, text, sizeof text);
-    put(next_line(screen), 0, "window %dx%d: lamps need %dx%d", columns, rows + 1, SCREEN_COLUMNS, SCREEN_ROWS);
+    put(next_line(screen), 0, "window %dx%d: lamps need %dx%d", columns, rows + 1, SCREEN_COLUMNS,
+        SCREEN_ROWS);
     put(next_line(screen), 0, "next %s", text);
-    put(next_line(screen), 0, "A %s %016" PRIo64, panel_register(panel, FIFTY_FIVE_A_FULL) ? "full " : "empty",
-        panel_register(panel, FIFTY_FIVE_A));
-    put(next_line(screen), 0, "B %s %016" PRIo64, panel_register(panel, FIFTY_FIVE_B_FULL) ? "full " : "empty",
-        panel_register(panel, FIFTY_FIVE_B));
-    put(next_line(screen), 0, "C %05" PRIo64 " L %" PRIo64 " R %03" PRIo64, panel_register(panel, FIFTY_FIVE_C),
-        panel_register(panel, FIFTY_FIVE_L), panel_register(panel, FIFTY_FIVE_R));
-    put(next_line(screen), 0, "S %05" PRIo64 " F %05" PRIo64, panel_register(panel, FIFTY_FIVE_S),
-        panel_register(panel, FIFTY_FIVE_F));
-    put(next_line(screen), 0, "SALF %" PRIo64 " MSFF %" PRIo64, panel_register(panel, FIFTY_FIVE_SALF),
-        panel_register(panel, FIFTY_FIVE_MSFF));
+    put(next_line(screen), 0, "A %s %016" PRIo64, a_mark, a);
+    put(next_line(screen), 0, "B %s %016" PRIo64, b_mark, b);
+    put(next_line(screen), 0, "C %05" PRIo64 " L %" PRIo64 " R %03" PRIo64, c, l, r);
+    put(next_line(screen), 0, "S %05" PRIo64 " F %05" PRIo64, s, f);
+    put(next_line(screen), 0, "SALF %" PRIo64 " MSFF %" PRIo64, salf, msff);
     put(next_line(screen), 0, "completed %" PRIu64, panel->completed);
     put_said(screen, panel, rows < SCREEN_ROWS ? rows : SCREEN_ROWS, columns);
 }
@@ -294,6 +297,7 @@ void screen_help(struct screen *screen)
         " Words, addresses and syllables are octal; counts, sizes and values decimal.",
         " [ ] marks the syllable that a step does next, at C and L.",
         " The stack is core up to S, then B if full, then A if full.",
+        " In it, data and program are descriptors, with the address after 'at'.",
         " Every number but 0 and 17 leaves registers and core as they were before",
         " the syllable that gave it.",
     };

@@ -42,6 +42,13 @@ static void put(const char *text, size_t length)
     }
 }
 
+/* A signal may break off the wait for the output before the modes are set. */
+static void set_modes(const struct termios *modes)
+{
+    while (tcsetattr(STDIN_FILENO, TCSADRAIN, modes) < 0 && errno == EINTR)
+        continue;
+}
+
 static void take_over(void)
 {
     struct termios raw = before;
@@ -51,7 +58,7 @@ static void take_over(void)
     raw.c_cc[VMIN] = 1;
     raw.c_cc[VTIME] = 0;
     taken = 1;
-    tcsetattr(STDIN_FILENO, TCSADRAIN, &raw);
+    set_modes(&raw);
     put(take, sizeof take - 1);
 }
 
@@ -60,7 +67,7 @@ void terminal_close(void)
     if (!taken)
         return;
     put(give, sizeof give - 1);
-    tcsetattr(STDIN_FILENO, TCSADRAIN, &before);
+    set_modes(&before);
     taken = 0;
 }
 
@@ -103,8 +110,11 @@ static void on_redraw(int signal_number)
     wake();
 }
 
-/* A fault: gives the terminal back, then lets the fault end the program. */
-static void on_fault(int signal_number)
+/*
+ * A fault: gives the terminal back, then lets the fault end the program. An emulator may enter a
+ * handler with the stack 8 bytes out of line, which libc does not bear.
+ */
+__attribute__((force_align_arg_pointer)) static void on_fault(int signal_number)
 {
     signal(signal_number, SIG_DFL);
     terminal_close();
@@ -132,6 +142,7 @@ static void handle_all(void)
         handle(quits[i], on_quit, 0);
     for (size_t i = 0; i < sizeof faults / sizeof faults[0]; i++)
         handle(faults[i], on_fault, 0);
+    handle(SIGXFSZ, SIG_IGN, 0); /* a file that gets too large is an error of the write */
     handle(SIGTSTP, on_suspend, SA_RESTART);
     handle(SIGCONT, on_continue, SA_RESTART);
     handle(SIGWINCH, on_redraw, SA_RESTART);

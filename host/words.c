@@ -40,7 +40,7 @@ static void operand_meaning(uint64_t word, char *text, size_t room)
 
 static void program_meaning(uint64_t word, char *text, size_t room)
 {
-    snprintf(text, room, "program descriptor, %s%s%s, address %05" PRIo64,
+    snprintf(text, room, "program, %s%s%s, at %05" PRIo64,
              word_field(word, 2, 2) ? "present" : "absent", word_field(word, 4, 4) ? ", mode" : "",
              word_field(word, 5, 5) ? ", argument" : "", word_field(word, 33, 47));
 }
@@ -50,11 +50,11 @@ void word_meaning(uint64_t word, char *text, size_t room)
     if (!word_field(word, 0, 0))
         operand_meaning(word, text, room);
     else if (!word_field(word, 1, 1))
-        snprintf(text, room, "data descriptor, %s, size %" PRIu64 ", address %05" PRIo64,
+        snprintf(text, room, "data, %s, size %" PRIu64 ", at %05" PRIo64,
                  word_field(word, 2, 2) ? "present" : "absent", word_field(word, 8, 17),
                  word_field(word, 33, 47));
     else if (word_field(word, 3, 3))
         program_meaning(word, text, room);
     else
-        snprintf(text, room, "control word, F field %05" PRIo64, word_field(word, 18, 32));
+        snprintf(text, room, "control word, F %05" PRIo64, word_field(word, 18, 32));
 }

@@ -8,7 +8,7 @@
  *   type TEXT             keys; \n, \e, \xHH as in C
  *   screen NAME           the screen is that of NAME.screen beside the session (--make: writes it)
  *   chance SEED COUNT     keys and windows by chance, then Ctrl-D till it ends; if it ends before, it is started again
- *   signal NAME           HUP, INT, QUIT or TERM
+ *   signal NAME           FPE, HUP, INT, QUIT or TERM
  *   hangup                the terminal goes away
  *   ends STATUS           the program ends so, by itself
  *   dies NAME             the program ends by this signal
@@ -136,7 +136,7 @@ static int signal_of(const char *name)
     const struct {
         const char *name;
         int number;
-    } signals[] = {{"HUP", SIGHUP}, {"INT", SIGINT}, {"QUIT", SIGQUIT}, {"TERM", SIGTERM}};
+    } signals[] = {{"FPE", SIGFPE}, {"HUP", SIGHUP}, {"INT", SIGINT}, {"QUIT", SIGQUIT}, {"TERM", SIGTERM}};
 
     for (size_t i = 0; i < sizeof signals / sizeof signals[0]; i++)
         if (strcmp(signals[i].name, name) == 0)
