@@ -51,9 +51,11 @@ static unsigned past(const struct segment *seg, unsigned count, unsigned most)
 }
 
 enum fault {
-    CODE_OUTSIDE, STACK_OUTSIDE, NO_STACK_OUTSIDE, TABLE_OUTSIDE, STACK_ON_CODE, TABLE_ON_CODE,
+    CODE_OUTSIDE, STACK_OUTSIDE, NO_STACK_OUTSIDE, TABLE_OUTSIDE, CODE_AROUND, STACK_AROUND, TABLE_AROUND, STACK_ON_CODE, TABLE_ON_CODE,
     TABLE_ON_STACK, CODE_UNDER_TABLE, STACK_UNDER_TABLE, FAULTS
 };
+
+static const unsigned places[FAULTS] = {0, 1, 1, 2, 0, 1, 2, 1, 2, 2, 2, 2};
 
 /* One try; the caller looks whether the clause is broken by it. */
 static void change(struct segment *seg, enum fault fault)
@@ -78,6 +80,18 @@ static void change(struct segment *seg, enum fault fault)
         if (one_in(2))
             table->count += below(1025 - table->count);
         table->first = (past(seg, table->count, 64 * 511) + 63) / 64;
+        break;
+    case CODE_AROUND:
+        code->first = 32767 - below(3);
+        code->count = 4 + below(20);
+        break;
+    case STACK_AROUND:
+        stack->first = 32767 - below(3);
+        stack->count = 3 + below(20);
+        break;
+    case TABLE_AROUND:
+        table->first = 511;
+        table->count += table->count == 64 ? 1 + below(60) : 0;
         break;
     case STACK_ON_CODE:
         if (stack->count == 0 || one_in(3))
@@ -107,23 +121,20 @@ static bool is_broken(const struct segment *seg, enum fault fault)
     unsigned wrong = 0;
     for (unsigned i = 0; i < 3; i++)
         wrong += (outside[i] ? 1U : 0U) + (meets[i] ? 1U : 0U);
-    if (wrong != 1 && (fault == TABLE_ON_CODE || fault == TABLE_ON_STACK || fault == TABLE_OUTSIDE))
+    /* A fault of the table shows only if nothing is wrong with the other two. */
+    if (wrong != 1 && places[fault] == 2)
         return false;
     switch (fault) {
-    case CODE_OUTSIDE: return outside[0];
-    case STACK_OUTSIDE: case NO_STACK_OUTSIDE: return outside[1] && !meets[0];
-    case TABLE_OUTSIDE: return outside[2];
+    case CODE_OUTSIDE: case CODE_AROUND: return outside[0];
+    case STACK_OUTSIDE: case NO_STACK_OUTSIDE: case STACK_AROUND: return outside[1] && !meets[0];
+    case TABLE_OUTSIDE: case TABLE_AROUND: return outside[2];
     case STACK_ON_CODE: return meets[0] && !outside[1];
-    case TABLE_ON_CODE: return meets[1];
-    case TABLE_ON_STACK: return meets[2];
-    case CODE_UNDER_TABLE: return meets[1] && wrong == 1;
-    case STACK_UNDER_TABLE: return meets[2] && wrong == 1;
+    case TABLE_ON_CODE: case CODE_UNDER_TABLE: return meets[1];
+    case TABLE_ON_STACK: case STACK_UNDER_TABLE: return meets[2];
     case FAULTS: break;
     }
     return false;
 }
-
-static const unsigned places[FAULTS] = {0, 1, 1, 2, 1, 2, 2, 2, 2};
 
 static bool spoil_areas(struct segment *seg, unsigned which, uint64_t *place)
 {
@@ -143,7 +154,7 @@ void list_area_clauses(void)
 {
     static const char *const names[FAULTS] = {
         "code outside core", "stack outside core", "S outside core, d 0", "table outside core",
-        "stack meets code", "table moved onto code", "table moved onto stack", "code moved under table",
+        "code past word 32,767", "stack past word 32,767", "table past word 32,767", "stack meets code", "table moved onto code", "table moved onto stack", "code moved under table",
         "stack moved under table"};
     for (unsigned i = 0; i < FAULTS; i++)
         add_clause(32, names[i], spoil_areas, i);

@@ -74,7 +74,7 @@ static uint64_t flag_word(struct segment *seg, unsigned cell, unsigned which_wor
 
 enum fault {
     NUMBER_FLAG, ARRAY_OPERAND, ARRAY_ABSENT, ARRAY_PROGRAM, ARRAY_CONTROL, ARRAY_EMPTY, ARRAY_PAST,
-    ARRAY_FAR, ARRAY_ON_CODE, ARRAY_ON_STACK, ARRAY_ON_TABLE, FLAG_FIRST, FLAG_LAST, FLAG_ANY, TWO_CELLS,
+    ARRAY_FAR, ARRAY_AROUND, ARRAY_ON_CODE, ARRAY_ON_STACK, ARRAY_ON_TABLE, FLAG_FIRST, FLAG_LAST, FLAG_ANY, TWO_CELLS,
     FAULTS
 };
 
@@ -111,6 +111,9 @@ static bool spoil_cell(struct segment *seg, unsigned which, uint64_t *place)
             return false;
         *word = (*word & ~(uint64_t)077777) | (length + below(MOST - length));
         break;
+    case ARRAY_AROUND:
+        *word = ON(0) | ON(2) | (uint64_t)(4 + below(5)) << 30 | (MOST - 1 - below(3));
+        break;
     case ARRAY_ON_CODE: return meet_area(seg, cell, 0);
     case ARRAY_ON_STACK: return meet_area(seg, cell, 1);
     case ARRAY_ON_TABLE: return meet_area(seg, cell, 2);
@@ -132,7 +135,7 @@ void list_cell_clauses(void)
     static const char *const names[FAULTS] = {
         "a number cell with its flag on", "an array cell with an operand", "an array that is not present",
         "an array cell with a program descriptor", "an array cell with a control word",
-        "an array of size 0", "an array past core by one word", "an array beyond core",
+        "an array of size 0", "an array past core by one word", "an array beyond core", "an array past word 32,767",
         "an array meets code", "an array meets stack", "an array meets table",
         "the first word of an array with its flag on", "the last word of an array with its flag on",
         "a word of an array with its flag on", "two cells unfit, the lowest"};

@@ -15,7 +15,7 @@ static bool spoil_length(struct segment *seg, unsigned which, uint64_t *place)
     case MANY_WORDS: seg->core_length = WORD * (MOST + 1 + (size_t)chance(2)); break;
     case NO_RECORDS: seg->sheet_length = 0; break;
     case FEW_RECORDS: seg->sheet_length = 6 * (1 + (size_t)chance(2)); break;
-    case MANY_RECORDS: seg->sheet_length = 6 * (MOST_RECORDS + 1 + (size_t)chance(60)); break;
+    case MANY_RECORDS: seg->sheet_length = 6 * (MOST_RECORDS + 1 + (one_in(2) ? 0 : (size_t)chance(60))); break;
     case PART_RECORD: seg->sheet_length += 1 + chance(5); break;
     }
     return true;

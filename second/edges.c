@@ -6,7 +6,7 @@
 enum edge {
     CODE_AT_0, CODE_AT_END, CODE_AT_32767, ONE_WORD, MOST_WORDS, ROOM_LEAST, ROOM_1, ROOM_1023, STACK_AT_END,
     S_AT_0, R_0, R_511, TABLE_64, TABLE_1024, RECORDS_1027, NO_CELL_9, STACK_TOUCHES_CODE, OVERLAP,
-    ARRAY_AT_END, ARRAY_AT_S, ARRAY_1023, FLAG_AFTER_ARRAY, FLAG_BEFORE_ARRAY, TO_FIRST, BY_NONE, BY_1023, LITERAL_CARRIED, EDGES
+    ARRAY_AT_END, ARRAY_AT_S, ARRAY_1023, FLAG_AFTER_ARRAY, FLAG_BEFORE_ARRAY, TO_FIRST, BY_NONE, BY_1000, LITERAL_CARRIED, EDGES
 };
 static const char *const names[EDGES] = {
     "code from word 0 on", "code up to the end of a short core", "code up to word 32,767", "code of one word",
@@ -45,7 +45,7 @@ static bool shown_by_branch(const struct segment *seg, enum edge edge)
         unsigned operator = p->syllable[b->at], distance = p->syllable[b->literal] >> 2;
         bool back = operator == BBW || operator == BBC;
         if ((edge == TO_FIRST && back && distance == b->at + 1) || (edge == BY_NONE && distance == 0) ||
-            (edge == BY_1023 && distance >= 1000) || (edge == LITERAL_CARRIED && b->literal + 1 != b->at))
+            (edge == BY_1000 && distance >= 1000) || (edge == LITERAL_CARRIED && b->literal + 1 != b->at))
             return true;
     }
     return false;
@@ -75,7 +75,7 @@ static bool shown(const struct segment *seg, enum edge edge)
     case STACK_TOUCHES_CODE: return stack->first + 1 == code_end;
     case OVERLAP: case ARRAY_AT_END: case ARRAY_AT_S: case ARRAY_1023: case FLAG_AFTER_ARRAY:
     case FLAG_BEFORE_ARRAY: return shown_by_array(seg, edge);
-    case TO_FIRST: case BY_NONE: case BY_1023: case LITERAL_CARRIED: return shown_by_branch(seg, edge);
+    case TO_FIRST: case BY_NONE: case BY_1000: case LITERAL_CARRIED: return shown_by_branch(seg, edge);
     case EDGES: break;
     }
     return false;

@@ -7,7 +7,7 @@
 /* Why a hand-out is refused, or just not. */
 enum way {
     CORE_BROKEN, CORE_NONE, CORE_LONG, R_RANGE, CELL_RANGE,
-    CELL_OUTSIDE, OPERAND, PROGRAM, CONTROL, ABSENT, SIZE_0, PAST_BY_ONE, FAR_PAST, LAST_CELL, FITS_AT_END,
+    CELL_OUTSIDE, OPERAND, PROGRAM, CONTROL, ABSENT, SIZE_0, PAST_BY_ONE, FAR_PAST, AROUND, LAST_CELL, FITS_AT_END,
     FITS, ANY, WAYS
 };
 static const struct {
@@ -17,7 +17,7 @@ static const struct {
     {"core bytes no multiple of 6", 4}, {"core of no words", 1}, {"core over 32,768 words", 1},
     {"R over 511", 3}, {"cell over 1,023", 3}, {"the cell outside core", 36}, {"an operand", 36},
     {"a program descriptor", 36}, {"a control word", 36}, {"not present", 36}, {"size 0", 36},
-    {"past core by one word", 36}, {"beyond core", 36}, {"the cell in the last word", 0},
+    {"past core by one word", 36}, {"beyond core", 36}, {"past word 32,767", 36}, {"the cell in the last word", 0},
     {"up to the last word", 0}, {"in core", 0}, {"any word", 0}};
 static uint64_t reached[WAYS];
 
@@ -80,6 +80,7 @@ static bool make_way(enum way way)
             return false;
         *word = descriptor(size, st.length + chance(MOST - st.length));
         break;
+    case AROUND: *word = descriptor(4 + chance(5), MOST - 1 - chance(3)); break;
     case LAST_CELL:
         r = (st.length - 1) / 64;
         cell = st.length - 1 - 64 * r;
@@ -118,7 +119,10 @@ unsigned group_hand_out(uint64_t count)
         }
         size_t first, words;
         uint64_t start = MARK, length = MARK;
+        /* The word after the core would serve, if it were of the core. */
+        const uint64_t after = descriptor(1, 0);
         words_to_bytes(st.core, st.length, core);
+        words_to_bytes(&after, 1, core + WORD * st.length);
         uint64_t number = fifty_five_hand_out(core, core_length, r, cell, &start, &length);
         uint64_t second = second_bounds(&first, &words);
         if (planted == PLANT_BOUNDS) {

@@ -42,6 +42,21 @@ static uint64_t chance_budget(void)
     return one_in(4) ? chance(3000) : chance(200);
 }
 
+static uint64_t chance_beside(uint64_t budget)
+{
+    if (seg.st.length > LARGE)
+        return 4;
+    return one_in(64) ? budget : BESIDE;
+}
+
+/* A post may go on for longer, at times for all that a budget can be. */
+static uint64_t chance_post_budget(uint64_t budget)
+{
+    if (one_in(700))
+        return 1000000;
+    return one_in(16) ? chance(20000) : budget;
+}
+
 unsigned group_segments(uint64_t count)
 {
     uint64_t steps = 0, beside = 0, looping = 0;
@@ -56,13 +71,13 @@ unsigned group_segments(uint64_t count)
             continue;
         }
         uint64_t budget = chance_budget();
-        struct watched w = watch_segment(&seg, budget, seg.st.length > LARGE ? 4 : one_in(64) ? budget : BESIDE);
+        struct watched w = watch_segment(&seg, budget, chance_beside(budget));
         if (w.difference != NULL)
             failures += failed("segments", i, w.difference);
         steps += w.steps;
         beside += w.beside;
         looping += w.steps > seg.program.made;
-        struct posted posted = both_post(&seg, one_in(16) ? chance(20000) : budget, ROW);
+        struct posted posted = both_post(&seg, chance_post_budget(budget), ROW);
         if (posted.difference != NULL)
             failures += failed("segments", i, posted.difference);
         else
