@@ -9,7 +9,6 @@
 #include "files.h"
 #include "paint.h"
 #include "panel.h"
-#include "screen.h"
 #include "terminal.h"
 #include "words.h"
 
@@ -36,13 +35,13 @@ static int ask(const struct panel *panel, const char *question, char *line, size
         key = terminal_key();
         if (key == '\n' || key == '\r')
             return 1;
-        if (key == KEY_ESCAPE || key == KEY_END || key == 4)
+        if (key == KEY_ESCAPE || key == KEY_END || key == KEY_CTRL_D)
             return 0;
-        if ((key == 127 || key == 8) && length > 0)
+        if ((key == KEY_DELETE || key == KEY_BACKSPACE) && length > 0)
             length--;
-        else if (key == 21)
+        else if (key == KEY_CTRL_U)
             length = 0;
-        else if (key >= ' ' && key < KEY_END && key != 127 && length + 1 < room)
+        else if (key >= ' ' && key < KEY_END && key != KEY_DELETE && length + 1 < room)
             line[length++] = (char)key;
     }
 }
@@ -106,7 +105,7 @@ static int do_key(struct panel *panel, int key)
     case 'w': ask_write(panel); return 1;
     case '?': paint_help(); return 1;
     case 'q':
-    case 4: /* Ctrl-D */
+    case KEY_CTRL_D:
     case KEY_END: return 0;
     case KEY_REDRAW: return 1;
     default: panel_say(panel, "that is no key of the panel: ? lists them"); return 1;

@@ -156,7 +156,7 @@ void paint_help(void)
             return;
         show(&page, from + page.rows < help.rows ? " any key: more" : " any key: back", 0);
         key = terminal_key();
-        if (key == 'q' || key == KEY_ESCAPE || key == 4)
+        if (key == 'q' || key == KEY_ESCAPE || key == KEY_CTRL_D)
             return;
         if (key != KEY_REDRAW)
             from += page.rows;

@@ -63,7 +63,8 @@ static void put_title(struct screen *screen, const struct panel *panel)
     put(line, AT_NAME, "B 5500  %s", length > 30 ? "..." : "");
     for (; *end; end++)
         put(line, 0, "%c", *end < ' ' || *end > '~' ? '?' : *end);
-    put(line, AT_RIGHT, "%zu words  %" PRIu64 " completed", panel_words(panel), panel->completed);
+    put(line, AT_RIGHT, "%zu word%s  %" PRIu64 " completed", panel_words(panel), panel_words(panel) == 1 ? "" : "s",
+        panel->completed);
 }
 
 static void put_word_rows(struct screen *screen, const struct panel *panel, const char *name,

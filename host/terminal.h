@@ -5,7 +5,11 @@
 #include <stddef.h>
 
 enum {
+    KEY_CTRL_D = 4,
+    KEY_BACKSPACE = 8,
+    KEY_CTRL_U = 21,
     KEY_ESCAPE = 27,
+    KEY_DELETE = 127,
     KEY_END = 256, /* the end of input, or a signal to quit */
     KEY_REDRAW,    /* the window changed, or the program was continued */
     KEY_OTHER      /* a key of several bytes, such as an arrow */
