@@ -21,6 +21,7 @@ void list_clauses(void)
     list_area_clauses();
     list_cell_clauses();
     list_code_clauses();
+    list_shape_clauses();
     list_target_clauses();
 }
 

@@ -27,12 +27,13 @@ extern unsigned clauses;
 
 struct clause *add_clause(unsigned number, const char *name, spoil *how, unsigned which);
 
-/* damage_sheet.c: 4, 1, 30, 31. damage_areas.c: 32. damage_cells.c: 33. damage_code.c: 34.
-   damage_targets.c: 35. */
+/* damage_sheet.c: 4, 1, 30, 31. damage_areas.c: 32. damage_cells.c: 33. damage_code.c,
+   damage_shapes.c: 34. damage_targets.c: 35. */
 void list_sheet_clauses(void);
 void list_area_clauses(void);
 void list_cell_clauses(void);
 void list_code_clauses(void);
+void list_shape_clauses(void);
 void list_target_clauses(void);
 
 /* clauses.c */

@@ -12,7 +12,8 @@
 
 static int usage(void)
 {
-    fprintf(stderr, "compare COUNT SEED [--plant nothing|number|register|core|completed|verdict|place|watch|post|bounds]\n");
+    fprintf(stderr, "compare COUNT SEED [--plant nothing|number|register|core|completed|"
+                    "verdict|place|watch|post|bounds]\n");
     return 2;
 }
 

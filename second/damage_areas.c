@@ -51,8 +51,8 @@ static unsigned past(const struct segment *seg, unsigned count, unsigned most)
 }
 
 enum fault {
-    CODE_OUTSIDE, STACK_OUTSIDE, NO_STACK_OUTSIDE, TABLE_OUTSIDE, CODE_AROUND, STACK_AROUND, TABLE_AROUND, STACK_ON_CODE, TABLE_ON_CODE,
-    TABLE_ON_STACK, CODE_UNDER_TABLE, STACK_UNDER_TABLE, FAULTS
+    CODE_OUTSIDE, STACK_OUTSIDE, NO_STACK_OUTSIDE, TABLE_OUTSIDE, CODE_AROUND, STACK_AROUND, TABLE_AROUND,
+    STACK_ON_CODE, TABLE_ON_CODE, TABLE_ON_STACK, CODE_UNDER_TABLE, STACK_UNDER_TABLE, FAULTS
 };
 
 static const unsigned places[FAULTS] = {0, 1, 1, 2, 0, 1, 2, 1, 2, 2, 2, 2};
@@ -154,7 +154,8 @@ void list_area_clauses(void)
 {
     static const char *const names[FAULTS] = {
         "code outside core", "stack outside core", "S outside core, d 0", "table outside core",
-        "code past word 32,767", "stack past word 32,767", "table past word 32,767", "stack meets code", "table moved onto code", "table moved onto stack", "code moved under table",
+        "code past word 32,767", "stack past word 32,767", "table past word 32,767", "stack meets code",
+        "table moved onto code", "table moved onto stack", "code moved under table",
         "stack moved under table"};
     for (unsigned i = 0; i < FAULTS; i++)
         add_clause(32, names[i], spoil_areas, i);

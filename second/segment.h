@@ -62,7 +62,7 @@ static inline unsigned below(uint64_t n) { return (unsigned)chance(n); }
 void make_cells(struct segment *seg, const struct wish *wish);
 unsigned any_of(const struct cells *cells);
 
-/* ---- program.c: code that passes the scan, with loops, conditions, arrays and places */
+/* ---- program.c, with expressions.c and stores.c: code that passes the scan */
 
 void make_body(struct segment *seg, bool longest);
 void make_end(struct segment *seg, bool communicates, bool longest);
