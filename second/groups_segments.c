@@ -32,21 +32,21 @@ unsigned stops_missing(void)
 
 /* ---- segments that pass */
 
-/* A step looks at the whole core, so a large core makes fewer of them. */
-enum { LARGE = 3000, BESIDE = 40 };
+/* A step looks at the whole core, so a large core makes fewer of them. A short segment is compared after every step. */
+enum { LARGE = 3000, SHORT = 200, BESIDE = 40 };
 
 static uint64_t chance_budget(void)
 {
     if (seg.st.length > LARGE)
         return chance(60);
-    return one_in(4) ? chance(3000) : chance(200);
+    return one_in(4) ? chance(3000) : chance(SHORT);
 }
 
 static uint64_t chance_beside(uint64_t budget)
 {
     if (seg.st.length > LARGE)
         return 4;
-    return one_in(64) ? budget : BESIDE;
+    return budget < SHORT || one_in(64) ? budget : BESIDE;
 }
 
 /* A post may go on for longer, at times for all that a budget can be. */
@@ -59,7 +59,7 @@ static uint64_t chance_post_budget(uint64_t budget)
 
 unsigned group_segments(uint64_t count)
 {
-    uint64_t steps = 0, beside = 0, looping = 0;
+    uint64_t steps = 0, beside = 0, looping = 0, whole = 0;
     unsigned failures = 0;
     for (uint64_t i = 0; i < count; i++) {
         struct wish wish = any_wish();
@@ -76,6 +76,7 @@ unsigned group_segments(uint64_t count)
             failures += failed("segments", i, w.difference);
         steps += w.steps;
         beside += w.beside;
+        whole += w.beside == w.steps;
         looping += w.steps > seg.program.made;
         struct posted posted = both_post(&seg, chance_post_budget(budget), ROW);
         if (posted.difference != NULL)
@@ -83,8 +84,8 @@ unsigned group_segments(uint64_t count)
         else
             stops_posted[posted.stop]++;
     }
-    printf("segments: %llu steps watched, %llu of them beside the cabinet; %llu segments looped\n",
-           (unsigned long long)steps, (unsigned long long)beside, (unsigned long long)looping);
+    printf("segments: %llu steps watched, %llu of them beside the cabinet; %llu segments looped, %llu were compared after every step\n",
+           (unsigned long long)steps, (unsigned long long)beside, (unsigned long long)looping, (unsigned long long)whole);
     return failures;
 }
 
