@@ -1,4 +1,4 @@
-/* What the parts of `compare` share: the cabinet (../include/fifty_five.h) beside the second machine. */
+/* What the parts of `compare` share: the cabinet (include/fifty_five.h) beside the second machine. */
 #ifndef SECOND_COMPARE_H
 #define SECOND_COMPARE_H
 
@@ -6,8 +6,8 @@
 #include <stddef.h>
 #include <stdint.h>
 
-#include "../include/fifty_five.h"
-#include "fifty_five_second.h"
+#include "../../include/fifty_five.h"
+#include "../fifty_five_second.h"
 
 enum { MOST = FIFTY_FIVE_MOST_WORDS, WORD = FIFTY_FIVE_WORD_BYTES, ROW = FIFTY_FIVE_ROW_BYTES };
 
