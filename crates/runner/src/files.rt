@@ -1,12 +1,33 @@
 // Whole files, read and put in place. What cannot be done is said on standard error, with the file's name and the reason.
+use crate::looks;
+use crate::looks::Look;
 use crate::say;
+use libc::PATH_MAX;
 ghost use Prim.Native.Nat.{_≤_};
 ghost use Rattle.io.specs.Counts.{Counts};
+ghost use Rattle.libc.specs.Io.{Ended};
 
-// How many bytes were read, or that reading failed.
+// How many bytes were read, or that reading failed; and what the file is.
 pub struct Got {
     pub read: bool,
     pub count: usize,
+    pub look: Look,
+}
+
+// Where a file can go: a name that is free, or the file there; or nowhere.
+enum Target {
+    Free,
+    File(Look),
+    Refused,
+}
+
+fn failed() -> Got {
+    let look = looks::none();
+    Got {
+        read: false,
+        count: 0,
+        look,
+    }
 }
 
 // A count of buf's bytes; 0 where n is more than they are.
@@ -21,20 +42,19 @@ pub fn within(n: usize, buf: &[u8]) -> usize
 
 // Reads until buf is full or the file ends.
 fn read_all(fd: i32, buf: &mut [u8]) -> Got {
+    let look = looks::look_at(fd);
     let mut done = 0;
     while done < buf.len() {
         let got = libc::read(fd, &mut buf[done..]);
         if got < 0 {
-            return Got {
-                read: false,
-                count: 0,
-            };
+            return failed();
         }
         let more = io::count(got, &buf[done..]);
         if more == 0 {
             return Got {
                 read: true,
                 count: done,
+                look,
             };
         }
         done += more;
@@ -42,6 +62,7 @@ fn read_all(fd: i32, buf: &mut [u8]) -> Got {
     Got {
         read: true,
         count: done,
+        look,
     }
 }
 
@@ -49,10 +70,7 @@ fn read_named(name: &[u8], buf: &mut [u8]) -> Got {
     let fd = os::open_read(name);
     if fd < 0 {
         say::fail(name);
-        return Got {
-            read: false,
-            count: 0,
-        };
+        return failed();
     }
     let got = read_all(fd, buf);
     if got.read {
@@ -61,7 +79,7 @@ fn read_named(name: &[u8], buf: &mut [u8]) -> Got {
     }
     say::fail(name);
     libc::close(fd);
-    got
+    failed()
 }
 
 // Reads the file that an argument names, up to the length of buf.
@@ -72,10 +90,7 @@ pub fn read_argument(at: usize, buf: &mut [u8]) -> Got {
         return read_named(&name[..n], buf);
     }
     say::fail(b"a file's name");
-    Got {
-        read: false,
-        count: 0,
-    }
+    failed()
 }
 
 // Complains of the file that an argument names.
@@ -85,28 +100,50 @@ pub fn complain_of(at: usize, reason: &[u8]) {
     say::complain(&name[..n], reason);
 }
 
-// Whether the name is free, or a file that may be written and is no device or pipe, which a rename would take the name from.
-fn may_be_replaced(name: &[u8]) -> bool {
+// The name with zeros after it, as C reads a path.
+fn ended(name: &[u8]) -> [u8; PATH_MAX]
+    ensures { λ r. ⌜ Ended r ⌝ }
+{
+    let mut room = io::buffer();
+    copied(name, &mut room);
+    room[4095] = 0;
+    room
+}
+
+fn is_link(name: &[u8]) -> bool {
+    let path = ended(name);
+    let mut text = [0u8; 1];
+    0 <= libc::readlink(&path, &mut text)
+}
+
+// What a rename would take the name from. A file that may not be written is left alone, and so is a device or a pipe.
+fn target_of(name: &[u8]) -> Target {
+    if is_link(name) {
+        say::complain(name, b": a symbolic link: name the file itself\n");
+        return Target::Refused;
+    }
     let fd = os::open_update(name);
     if fd < 0 {
         if os::errno() == libc::ENOENT {
-            return true;
+            return Target::Free;
         }
         say::fail(name);
-        return false;
+        return Target::Refused;
     }
-    let synced = libc::fsync(fd);
+    let look = looks::look_at(fd);
     libc::close(fd);
-    if synced < 0 {
-        say::complain(name, b": not a regular file\n");
-        return false;
+    if look.regular {
+        return Target::File(look);
     }
-    true
+    say::complain(name, b": not a regular file\n");
+    Target::Refused
 }
 
-fn written(fd: i32, bytes: &[u8], mode: u32) -> bool {
+// Writes the bytes, and gives the file its permissions, and its owner if that may be done.
+fn written(fd: i32, bytes: &[u8], look: Look) -> bool {
     if io::write_all(fd, bytes) {
-        if libc::fchmod(fd, mode) < 0 {
+        libc::fchown(fd, look.owner, look.group);
+        if libc::fchmod(fd, look.mode) < 0 {
             return false;
         }
         return 0 <= libc::fsync(fd);
@@ -114,8 +151,8 @@ fn written(fd: i32, bytes: &[u8], mode: u32) -> bool {
     false
 }
 
-fn filled(fd: i32, name: &[u8], bytes: &[u8], mode: u32) -> bool {
-    if written(fd, bytes, mode) {
+fn filled(fd: i32, name: &[u8], bytes: &[u8], look: Look) -> bool {
+    if written(fd, bytes, look) {
         if libc::close(fd) < 0 {
             say::fail(name);
             return false;
@@ -165,19 +202,19 @@ fn beside(name: &[u8], room: &mut [u8]) -> usize
 }
 
 // Writes a new file beside the name, and gives it the name: whole or not at all.
-fn put_named(name: &[u8], bytes: &[u8], mode: u32) -> bool {
+fn put_named(name: &[u8], bytes: &[u8], look: Look) -> bool {
     let mut room = io::buffer();
     let k = beside(name, &mut room);
-    put_by(&mut room[..k], name, bytes, mode)
+    put_by(&mut room[..k], name, bytes, look)
 }
 
-fn put_by(temp: &mut [u8], name: &[u8], bytes: &[u8], mode: u32) -> bool {
+fn put_by(temp: &mut [u8], name: &[u8], bytes: &[u8], look: Look) -> bool {
     let fd = os::create_temp(temp);
     if fd < 0 {
         say::fail(name);
         return false;
     }
-    if filled(fd, name, bytes, mode) {
+    if filled(fd, name, bytes, look) {
         return moved(&temp[..], name);
     }
     os::unlink(&temp[..]);
@@ -194,15 +231,21 @@ fn moved(from: &[u8], to: &[u8]) -> bool {
 }
 
 // Puts the bytes in place of the file that an argument names, and answers whether that was done.
-pub fn put_argument(at: usize, bytes: &[u8], mode: u32) -> bool {
+// The new file has the permissions of the one that it replaces, or of `other` where it replaces none.
+pub fn put_argument(at: usize, bytes: &[u8], other: Look) -> bool {
     let mut name = io::buffer();
     let n = os::arg(at, &mut name);
     if os::errno() == 0 {
-        if may_be_replaced(&name[..n]) {
-            return put_named(&name[..n], bytes, mode);
-        }
-        return false;
+        return put_there(&name[..n], bytes, other);
     }
     say::fail(b"a file's name");
     false
+}
+
+fn put_there(name: &[u8], bytes: &[u8], other: Look) -> bool {
+    match target_of(name) {
+        Target::Free => put_named(name, bytes, looks::new_like(other)),
+        Target::File(look) => put_named(name, bytes, look),
+        Target::Refused => false,
+    }
 }

@@ -1,5 +1,6 @@
 // Inspects a segment, a core file and its sheet, or posts it: inspects, runs it where it passed, and puts the core back by a rename.
 mod files;
+mod looks;
 mod options;
 mod report;
 mod say;

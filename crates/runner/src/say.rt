@@ -80,14 +80,14 @@ pub fn usage(fd: i32) {
         fd,
         b"  says whether the segment passes, or the number that refuses it and where\n",
     );
-    io::write_all(fd, b"runner run CORE SHEET [BUDGET [OUTPUT [MODE]]]\n");
+    io::write_all(fd, b"runner run CORE SHEET [BUDGET [OUTPUT]]\n");
     io::write_all(
         fd,
-        b"  inspects the segment, runs it where it passed for at most BUDGET syllables (1000000), and puts\n",
+        b"  inspects the segment, runs it where it passed for at most BUDGET syllables (1000000),\n",
     );
     io::write_all(
         fd,
-        b"  the core in place of OUTPUT (CORE) by a rename, with the permissions MODE in octal (600)\n",
+        b"  and puts the core in place of OUTPUT (CORE) by a rename\n",
     );
     io::write_all(fd, b"The last line of the output is the status:\n");
     io::write_all(

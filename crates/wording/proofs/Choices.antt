@@ -28,7 +28,7 @@ pub counted-right : (c : Command) (count least most : ℕ) → least ≤ count �
 unfolding countedOf
 counted-right c count least most l h = rw (le-ltb count least l, le-ltb most count h)
 
-pub command-run : (text : List ℕ) (count : ℕ) {b : Bool} {r : Command} → b ≡ sameOf text runWord → b ≡ true → r ≡ countedOf Run count 4 7 → r ≡ commandOf text count
+pub command-run : (text : List ℕ) (count : ℕ) {b : Bool} {r : Command} → b ≡ sameOf text runWord → b ≡ true → r ≡ countedOf Run count 4 6 → r ≡ commandOf text count
 unfolding commandOf
 command-run text count s t e = rw (sym s ∙ t) e
 

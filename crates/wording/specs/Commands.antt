@@ -28,9 +28,9 @@ inspectWord = 105 ∷ 110 ∷ 115 ∷ 112 ∷ 101 ∷ 99 ∷ 116 ∷ []
 abbrev pub helpWord : List ℕ
 helpWord = 104 ∷ 101 ∷ 108 ∷ 112 ∷ []
 
--- run CORE SHEET [BUDGET [OUTPUT [MODE]]], inspect CORE SHEET, help.
+-- run CORE SHEET [BUDGET [OUTPUT]], inspect CORE SHEET, help.
 unfoldable pub commandOf : List ℕ → ℕ → Command
 commandOf text count =
-    choose (sameOf text runWord) (countedOf Run count 4 7)
+    choose (sameOf text runWord) (countedOf Run count 4 6)
     (choose (sameOf text inspectWord) (countedOf Inspect count 4 4)
     (choose (sameOf text helpWord) Help Unknown))

@@ -16,7 +16,7 @@ pub fn command_of(text: &[u8], count: usize) -> Command
     ensures { λ r. ⌜ r ≡ commandOf (now (text .entry)) count ⌝ }
 {
     if same(text, b"run") {
-        return counted(Command::Run, count, 4, 7);
+        return counted(Command::Run, count, 4, 6);
     }
     if same(text, b"inspect") {
         return counted(Command::Inspect, count, 4, 4);

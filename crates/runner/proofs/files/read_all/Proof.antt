@@ -9,82 +9,92 @@ use Rattle.runner.proofs.files.read_all.Reads as reads
 use Rattle.runner.proofs.files.read_all.Lts as lts
 use Rattle.io.proofs.count.Reads as count-reads
 use Rattle.libc.proofs.read.Reads as read-reads
+use Rattle.runner.proofs.files.failed.Reads as failed-reads
+use Rattle.runner.proofs.looks.look_at.Reads as look-at-reads
 
 abbrev Inv-loop : tie.InvT-loop
-Inv-loop fd buf₀ done₀ buf done = (done ≤ length buf) × (length buf ≡ length buf₀)
+Inv-loop fd buf₀ look done₀ buf done = (done ≤ length buf) × (length buf ≡ length buf₀)
 
 abbrev μ-loop : tie.MeasureT-loop
-μ-loop fd buf₀ done₀ buf done = length buf₀ - done
+μ-loop fd buf₀ look done₀ buf done = length buf₀ - done
 
--- src/files.rt:17:5
+-- src/files.rt:45:9
+look-at-requires : tie.Need-look-at-requires Inv-loop μ-loop
+look-at-requires c κs = search needs
+
+-- src/files.rt:47:5
 loop-holds : tie.Need-loop-holds Inv-loop μ-loop
 loop-holds c = (search needs, refl)
 
--- src/files.rt:18:34
+-- src/files.rt:48:34
 sub-read : tie.Need-sub-read Inv-loop μ-loop
 sub-read c = search needs
 
--- src/files.rt:18:34
+-- src/files.rt:48:34
 part-read-start : tie.Need-part-read-start Inv-loop μ-loop
 part-read-start c = search needs
 
--- src/files.rt:18:34
+-- src/files.rt:48:34
 part-read-end : tie.Need-part-read-end Inv-loop μ-loop
 part-read-end c = search needs
 
--- src/files.rt:18:13
+-- src/files.rt:48:13
 read-requires : tie.Need-read-requires Inv-loop μ-loop
 read-requires c κs = search needs
 
--- src/files.rt:20:13
+-- src/files.rt:50:13
+failed-requires : tie.Need-failed-requires Inv-loop μ-loop
+failed-requires c κs = search needs
+
+-- src/files.rt:50:13
 same-length : tie.Need-same-length Inv-loop μ-loop
 same-length c = search needs
 
--- src/files.rt:20:13
+-- src/files.rt:50:13
 returns : tie.Need-returns Inv-loop μ-loop
 returns c = search needs
 
--- src/files.rt:25:35
+-- src/files.rt:52:35
 sub-count : tie.Need-sub-count Inv-loop μ-loop
 sub-count c = search needs
 
--- src/files.rt:25:35
+-- src/files.rt:52:35
 part-count-start : tie.Need-part-count-start Inv-loop μ-loop
 part-count-start c = search needs
 
--- src/files.rt:25:35
+-- src/files.rt:52:35
 part-count-end : tie.Need-part-count-end Inv-loop μ-loop
 part-count-end c = search needs
 
--- src/files.rt:25:13
+-- src/files.rt:52:13
 count-requires : tie.Need-count-requires Inv-loop μ-loop
 count-requires c κs = search needs
 
--- src/files.rt:27:13
+-- src/files.rt:54:13
 same-length-2 : tie.Need-same-length-2 Inv-loop μ-loop
 same-length-2 c = search needs
 
--- src/files.rt:27:13
+-- src/files.rt:54:13
 returns-2 : tie.Need-returns-2 Inv-loop μ-loop
 returns-2 c = search needs
 
--- src/files.rt:32:9
+-- src/files.rt:60:9
 add-done : tie.Need-add-done Inv-loop μ-loop
 add-done c = search needs
 
--- src/files.rt:17:5
+-- src/files.rt:47:5
 loop-less : tie.Need-loop-less Inv-loop μ-loop
 loop-less c = search needs
 
--- src/files.rt:17:5
+-- src/files.rt:47:5
 loop-again : tie.Need-loop-again Inv-loop μ-loop
 loop-again c = search needs
 
--- src/files.rt:13:1
+-- src/files.rt:44:1
 same-length-3 : tie.Need-same-length-3 Inv-loop μ-loop
 same-length-3 c = search needs
 
--- src/files.rt:13:1
+-- src/files.rt:44:1
 returns-3 : tie.Need-returns-3 Inv-loop μ-loop
 returns-3 c = search needs
 
@@ -94,11 +104,13 @@ read-all-spec =
     (tie.spec
     Inv-loop
     μ-loop
+    look-at-requires
     loop-holds
     sub-read
     part-read-start
     part-read-end
     read-requires
+    failed-requires
     same-length
     returns
     sub-count
