@@ -4,17 +4,17 @@ use syllable::Relation;
 
 // A and B hold 48 bits, full or empty, and empty holds 0; S, F and C 15; R 9; L 2.
 pub struct Registers {
-    pub a: u64,
-    pub afull: bool,
-    pub b: u64,
-    pub bfull: bool,
-    pub s: u16,
-    pub f: u16,
-    pub c: u16,
     pub r: u16,
-    pub l: u8,
+    pub f: u16,
     pub salf: bool,
     pub msff: bool,
+    pub a: u64,
+    pub s: u16,
+    pub bfull: bool,
+    pub afull: bool,
+    pub b: u64,
+    pub c: u16,
+    pub l: u8,
 }
 
 // A number given back, and the registers.
