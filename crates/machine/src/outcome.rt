@@ -67,6 +67,28 @@ pub enum Done {
     Stop(Cause),
 }
 
+// The registers that the common syllables change; the others stand as they did where the sprint began.
+pub struct Hot {
+    pub a: u64,
+    pub b: u64,
+    pub afull: bool,
+    pub bfull: bool,
+    pub c: u16,
+    pub l: u8,
+}
+
+// A common syllable went on, or is left to the full step.
+pub enum Hurry {
+    On(Hot),
+    Slow,
+}
+
+// Where a sprint ended: the syllables completed by then, and the registers.
+pub struct Sprint {
+    pub completed: u64,
+    pub regs: Registers,
+}
+
 // The operators that work two whole numbers.
 pub enum Binary {
     Reckon(Arithmetic),
