@@ -17,20 +17,23 @@ use Rattle.machine.specs.States.{State, setPlace}
 use Rattle.machine.specs.Memory.{baseOf, patternOf, kAddressOf, readOf}
 use Rattle.machine.specs.Stack.{pushBOf, aEmptyOf, aFullOf, bFullOf, bothFullOf}
 use Rattle.machine.specs.Stores.{litcOf, placeOf, sndOf, stdOf}
-use Rattle.machine.specs.Calls.{leftOf, callOf, fetchedOf, callKOf}
+use Rattle.machine.specs.Calls.{indexOf, indexedOf, loadOf, dataCallOf, leftOf, callOf, fetchedOf, callKOf}
 use Rattle.machine.specs.Arithmetics.{takenOf, twoOf}
 use Rattle.machine.specs.Branches.{landingOf, jumpOf, ifOffOf}
 use Rattle.machine.specs.Steps.{Ended, next, plain, operateOf, performOf, executeOf}
 use Rattle.machine.specs.Runs.{Run}
 use Rattle.machine.specs.Shapes.{stateOf}
-use Rattle.machine.specs.Sprints.{upon, quickly, waits, Hurries, Left}
+use Rattle.machine.specs.Sprints.{upon, elementOf, raised, quickly, waits, Hurries, Left}
 use Rattle.machine.proofs.Calculus.{isYes, isNo, isGiven}
+use Rattle.machine.proofs.Indexes.{index-small}
 use Rattle.machine.proofs.Results.{worked}
 use Rattle.machine.proofs.Turns.{low-bits, last-bit}
 use Rattle.machine.proofs.Endings.{read-by, syllable-lt}
 use Rattle.machine.proofs.Running.{left-on}
 use Rattle.word.specs.Kinds.{kindOf}
-use Rattle.word.specs.Layout.{flagOf}
+use Rattle.word.specs.Addresses.{sumOf}
+use Rattle.word.specs.Field.{withField}
+use Rattle.word.specs.Layout.{flagOf, signOf, presenceOf, sizeOf, addressOf}
 use Rattle.syllable.specs.declared.Place.{Place}
 use Rattle.syllable.specs.Decoding.{decodeOf}
 use Rattle.syllable.specs.Numbers.{tableOf, operatorAt, syllableAt}
@@ -108,6 +111,39 @@ call-operand core g t here k m h a f = ap plain (go (t .afull) (t .bfull) refl r
     go false y e _ _ = called core g t t here k m (a-there core g t e) a f
     go true false e q _ = called core g t _ here k m (a-moves core g t e q) a f
     go true true e q z = absurd (false≢true (sym z))
+
+-- ---- OPDC of any word, where no word is pushed
+
+pub call-raised : (core : List ℕ) (g : Registers) (t : Hot) (here k m : ℕ) → (t .afull && t .bfull) ≡ false → kAddressOf here (stateOf core g) k ≡ on m → plain (callOf false m (stateOf core (upon g (raised t (getD core m 0))))) ≡ plain (callKOf false here (stateOf core (upon g t)) k)
+unfolding callKOf fetchedOf raised if_then_else_ _>>=_
+call-raised core g t here k m h a = ap plain (go (t .afull) (t .bfull) refl refl h)
+  where
+    go : (x y : Bool) → t .afull ≡ x → t .bfull ≡ y → (x && y) ≡ false → callOf false m (stateOf core (upon g (raised t (getD core m 0)))) ≡ callKOf false here (stateOf core (upon g t)) k
+    go false y e _ _ = rw (a-there core g t e, address-upon core g t here k, a, e)
+    go true false e q _ = rw (a-moves core g t e q, address-upon core g (record { a = 0; b = t .a; afull = false; bfull = true; c = t .c; l = t .l }) here k, a, e)
+    go true true e q z = absurd (false≢true (sym z))
+
+-- ---- an element of an array
+
+b-there : (core : List ℕ) (g : Registers) (t : Hot) (x d : ℕ) → bFullOf (stateOf core (upon g (elementOf t x d))) ≡ on (stateOf core (upon g (elementOf t x d)))
+unfolding bFullOf if_then_else_
+b-there core g t x d = refl
+
+indexes : (core : List ℕ) (g : Registers) (t : Hot) (x d s i e : ℕ) → s ≡ sizeOf d → indexOf x s ≡ on i → e ≡ withField (withField d 8 17 0) 33 47 (sumOf (addressOf d) i) → on (stateOf core (upon g (record { a = e; b = 0; afull = true; bfull = false; c = t .c; l = t .l }))) ≡ indexedOf (stateOf core (upon g (elementOf t x d))) d
+unfolding indexedOf
+indexes core g t x d s i e p h q =
+    isNo _ _ (ne-eqb (sizeOf d) 0 (λ (z : sizeOf d ≡ 0). omega (arith, index-small x s i h, p, z)))
+    (isGiven _ (b-there core g t x d)
+    (isGiven _ (ap (indexOf x) (sym p) ∙ h) (ap (λ (y : ℕ). on (stateOf core (upon g (record { a = y; b = 0; afull = true; bfull = false; c = t .c; l = t .l })))) q)))
+
+pub finds : (core : List ℕ) (g : Registers) (t : Hot) (x d s i e m w : ℕ) → s ≡ sizeOf d → indexOf x s ≡ on i → e ≡ withField (withField d 8 17 0) 33 47 (sumOf (addressOf d) i) → m ≡ addressOf e → readOf core m ≡ on w → flagOf w ≡ false → next (stateOf core (upon g (record { a = w; b = 0; afull = true; bfull = false; c = t .c; l = t .l }))) ≡ plain (dataCallOf false (stateOf core (upon g (elementOf t x d))) d)
+unfolding dataCallOf loadOf
+finds core g t x d s i e m w p h q o r f =
+    ap plain (isGiven _ (sym (indexes core g t x d s i e p h q)) (isNo _ _ refl (isGiven _ (ap (readOf core) (sym o) ∙ r) (isNo _ _ f refl))))
+
+pub calls-data : (core : List ℕ) (g : Registers) (t : Hot) (d m x : ℕ) → flagOf d ≡ true → signOf d ≡ false → presenceOf d ≡ true → (t .afull || t .bfull) ≡ true → x ≡ (if t .afull then t .a else t .b) → plain (dataCallOf false (stateOf core (upon g (elementOf t x d))) d) ≡ plain (callOf false m (stateOf core (upon g (raised t d))))
+unfolding callOf kindOf raised if_then_else_
+calls-data core g t d m x f s p h e = rw (f, s, p, h, e)
 
 -- ---- both registers are full
 

@@ -1,6 +1,8 @@
 // The sprint: the common cases of the common syllables, over few registers; all else is left to the full step.
 use crate::arithmetic::work;
 use crate::branches::landing;
+use crate::calls::index;
+use crate::calls::moved;
 use crate::memory::k_address;
 use crate::memory::put;
 use crate::memory::read;
@@ -13,17 +15,18 @@ use crate::outcome::Sprint;
 use crate::steps::binary;
 use crate::stores::place;
 ghost use mathlib.Core.Path.{_≡_};
-ghost use mathlib.Core.Bool.{false};
+ghost use mathlib.Core.Bool.{true, false};
 ghost use mathlib.Core.List.{List};
 ghost use Prim.Native.Nat.{ℕ, _≤_, _<_};
 ghost use lib.ListN.{length};
 ghost use Rattle.machine.specs.Outcomes.{if_then_else_};
 ghost use Rattle.machine.specs.Stores.{litcOf, sndOf, stdOf};
-ghost use Rattle.machine.specs.Calls.{callKOf};
+ghost use Rattle.machine.specs.Calls.{dataCallOf, callOf, callKOf};
 ghost use Rattle.machine.specs.Branches.{ifOffOf};
 ghost use Rattle.machine.specs.Steps.{plain as plainOf, operateOf, performOf};
 ghost use Rattle.machine.specs.Shapes.{stateOf};
-ghost use Rattle.machine.specs.Sprints.{upon, quickly, Hurries, Left};
+ghost use Rattle.machine.specs.Sprints.{upon, elementOf, raised, quickly, Hurries, Left};
+ghost use Rattle.word.specs.Layout.{flagOf};
 ghost use Rattle.syllable.specs.Numbers.{tableOf, operatorAt, syllableAt};
 
 // A word comes to A; where A and B are full, B would have to be pushed.
@@ -53,7 +56,63 @@ fn filled(t: Hot, w: u64) -> Hurry
     })
 }
 
-// OPDC of an operand.
+// B's word once A is empty.
+fn under(t: Hot) -> u64
+    ensures { λ r. ⌜ r ≡ (if t .afull then t .a else t .b) ⌝ }
+{
+    if t.afull {
+        return t.a;
+    }
+    t.b
+}
+
+// OPDC's call of a data descriptor whose index is x.
+fn array(core: &[u64], t: Hot, x: u64, d: u64) -> Hurry
+    ensures { λ r. ⌜ ((g : Registers) → quickly (now (core .entry)) g r (plainOf (dataCallOf false (stateOf (now (core .entry)) (upon g (elementOf t x d))) d))) ⌝ }
+{
+    let i = match index(x, word::size(d)) {
+        Spot::At(i) => i,
+        Spot::Stop(n) => {
+            return Hurry::Slow;
+        }
+    };
+    let e = moved(d, i as u16);
+    let w = match read(core, word::address(e) as usize) {
+        Part::Word(w) => w,
+        Part::Stop(n) => {
+            return Hurry::Slow;
+        }
+    };
+    if word::flag(w) {
+        return Hurry::Slow;
+    }
+    Hurry::On(Hot {
+        a: w,
+        b: 0,
+        afull: true,
+        bfull: false,
+        c: t.c,
+        l: t.l,
+    })
+}
+
+// OPDC's call of a word whose flag is on: of a present data descriptor, where the index is at hand.
+fn flagged(core: &[u64], t: Hot, d: u64) -> Hurry
+    requires { ⌜ flagOf d ≡ true ⌝ }
+    ensures { λ r. ⌜ ((g : Registers) (m : ℕ) → quickly (now (core .entry)) g r (plainOf (callOf false m (stateOf (now (core .entry)) (upon g (raised t d)))))) ⌝ }
+{
+    if word::sign(d) {
+        return Hurry::Slow;
+    }
+    if word::presence(d) {
+        if t.afull | t.bfull {
+            return array(core, t, under(t), d);
+        }
+    }
+    Hurry::Slow
+}
+
+// OPDC of an operand or an element of an array.
 fn operand(core: &[u64], here: u16, g: Registers, t: Hot, k: u16) -> Hurry
     ensures { λ r. ⌜ quickly (now (core .entry)) g r (plainOf (callKOf false here (stateOf (now (core .entry)) (upon g t)) k)) ⌝ }
 {
@@ -68,7 +127,7 @@ fn operand(core: &[u64], here: u16, g: Registers, t: Hot, k: u16) -> Hurry
     };
     let w = core[m];
     if word::flag(w) {
-        return Hurry::Slow;
+        return flagged(core, t, w);
     }
     filled(t, w)
 }
