@@ -110,7 +110,7 @@ pub table-length : (table : List ℕ) → table ≡ tableOf → length table ≡
 unfolding tableOf
 table-length table e = rw e (numbers-length 4096 0)
 
-read-by : (y n : ℕ) (table : List ℕ) → y < 4096 → table ≡ tableOf → n ≡ getD table y 0 → syllableAt n (y / 4) ≡ decodeOf y
+pub read-by : (y n : ℕ) (table : List ℕ) → y < 4096 → table ≡ tableOf → n ≡ getD table y 0 → syllableAt n (y / 4) ≡ decodeOf y
 read-by y n table h t e =
     let m : y % 4096 ≡ y = omega arith in
     sym (decode-number y ∙ ap (λ (i : ℕ). syllableAt i (y / 4)) (sym (e ∙ ap (λ (i : ℕ). getD table i 0) (sym m) ∙ entry table y t ∙ ap numberAt m)))

@@ -18,3 +18,4 @@ pub mod EnterPlan
 pub mod Undo
 pub mod Endings
 pub mod Running
+pub mod Sprinting

@@ -17,11 +17,8 @@ use Rattle.machine.specs.States.{State}
 use Rattle.machine.specs.Steps.{Ended, next, communicated, stopped, executeOf, refusalOf}
 use Rattle.machine.specs.Runs.{Run, endsAt, counted, goesOn, runFrom, runOf}
 use Rattle.machine.specs.Shapes.{stateOf, doneOf, Ends}
+use Rattle.machine.specs.Sprints.{Left}
 use Rattle.machine.proofs.Endings.{done-kept}
-
--- What is left of a run of b syllables of which n are completed.
-pub Left : ℕ → ℕ → State → Run
-Left b n st = counted n (runFrom (b - n) st)
 
 pub left-none : (b : ℕ) (st : State) → runFrom b st ≡ Left b 0 st
 unfolding Left
@@ -33,7 +30,7 @@ module _ (b n : ℕ) (st : State) (more : n < b) where
   less : b - n ≡ suc (b - (n + 1))
   less = omega arith
 
-  left-on : (u : State) → executeOf st ≡ next u → Left b n st ≡ Left b (n + 1) u
+  pub left-on : (u : State) → executeOf st ≡ next u → Left b n st ≡ Left b (n + 1) u
   unfolding Left runFrom
   left-on u e = rw (less, e, add-assoc n 1 (runFrom (b - (n + 1)) u .completed))
 

@@ -12,3 +12,4 @@ pub mod Steps
 pub mod Runs
 pub mod Shapes
 pub mod Pushes
+pub mod Sprints

@@ -27,7 +27,7 @@ ghost use Rattle.word.specs.Layout.{addressOf};
 ghost use Rattle.word.specs.Addresses.{sumOf};
 
 // The index that a word is, below size.
-fn index(w: u64, size: u16) -> Spot
+pub fn index(w: u64, size: u16) -> Spot
     ensures { λ r. ⌜ spotOf r ≡ indexOf w size ⌝ }
 {
     let whole = word::whole_of(w);
@@ -47,7 +47,7 @@ fn index(w: u64, size: u16) -> Spot
 }
 
 // The descriptor of the word at index i.
-fn moved(d: u64, i: u16) -> u64
+pub fn moved(d: u64, i: u16) -> u64
     ensures { λ r. ⌜ r ≡ withField (withField d 8 17 0) 33 47 (sumOf (addressOf d) i) ⌝ }
 {
     word::with_address(word::with_size(d, 0), word::sum(word::address(d), i))

@@ -8,6 +8,7 @@ mod memory;
 mod mks;
 mod outcome;
 mod pushes;
+mod quick;
 mod runs;
 mod stack;
 mod steps;

@@ -4,17 +4,17 @@ use syllable::Relation;
 
 // A and B hold 48 bits, full or empty, and empty holds 0; S, F and C 15; R 9; L 2.
 pub struct Registers {
-    pub a: u64,
-    pub afull: bool,
-    pub b: u64,
-    pub bfull: bool,
-    pub s: u16,
-    pub f: u16,
-    pub c: u16,
     pub r: u16,
-    pub l: u8,
+    pub f: u16,
     pub salf: bool,
     pub msff: bool,
+    pub a: u64,
+    pub s: u16,
+    pub bfull: bool,
+    pub afull: bool,
+    pub b: u64,
+    pub c: u16,
+    pub l: u8,
 }
 
 // A number given back, and the registers.
@@ -65,6 +65,28 @@ pub enum Done {
     Next(Registers),
     Com(Registers),
     Stop(Cause),
+}
+
+// The registers that the common syllables change; the others stand as they did where the sprint began.
+pub struct Hot {
+    pub a: u64,
+    pub b: u64,
+    pub afull: bool,
+    pub bfull: bool,
+    pub c: u16,
+    pub l: u8,
+}
+
+// A common syllable went on, or is left to the full step.
+pub enum Hurry {
+    On(Hot),
+    Slow,
+}
+
+// Where a sprint ended: the syllables completed by then, and the registers.
+pub struct Sprint {
+    pub completed: u64,
+    pub regs: Registers,
 }
 
 // The operators that work two whole numbers.

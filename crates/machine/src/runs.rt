@@ -3,6 +3,7 @@ use crate::checks::refusal;
 use crate::outcome::Done;
 use crate::outcome::Ran;
 use crate::outcome::Registers;
+use crate::quick::sprint;
 use crate::steps::execute;
 use crate::steps::number;
 ghost use mathlib.Core.Path.{_≡_};
@@ -12,7 +13,7 @@ ghost use Rattle.machine.specs.Runs.{runFrom, runOf};
 ghost use Rattle.machine.specs.Shapes.{stateOf, ranOf};
 ghost use Rattle.syllable.specs.Numbers.{tableOf};
 
-// A fit state stays fit, so the checks are not made again.
+// A sprint over the common syllables, then a full step for the next one. A fit state stays fit, so the checks are not made again.
 fn turns(table: &[u8], core: &mut [u64], g: Registers, budget: u64) -> Ran
     requires { ⌜ (length (now core) ≤ 32768) × (now table ≡ tableOf) ⌝ }
     ensures { λ r. ⌜ ranOf r (now (core .exit)) ≡ runFrom budget (stateOf (now (core .entry)) g) ⌝ }
@@ -20,25 +21,35 @@ fn turns(table: &[u8], core: &mut [u64], g: Registers, budget: u64) -> Ran
     let mut h = g;
     let mut n: u64 = 0;
     while n < budget {
-        let x = match execute(table, core, h) {
+        let q = sprint(table, core, h, n, budget);
+        let m = q.completed;
+        let v = q.regs;
+        if m == budget {
+            return Ran {
+                stop: 0,
+                completed: m,
+                regs: v,
+            };
+        }
+        let x = match execute(table, core, v) {
             Done::Next(x) => x,
             Done::Com(x) => {
                 return Ran {
                     stop: 17,
-                    completed: n + 1,
+                    completed: m + 1,
                     regs: x,
                 };
             }
             Done::Stop(cause) => {
                 return Ran {
                     stop: number(cause),
-                    completed: n,
-                    regs: h,
+                    completed: m,
+                    regs: v,
                 };
             }
         };
         h = x;
-        n += 1;
+        n = m + 1;
     }
     Ran {
         stop: 0,

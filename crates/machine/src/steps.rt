@@ -76,7 +76,7 @@ fn last(w: Went) -> Done
 }
 
 // The operator numbers 1 to 11, on two whole numbers.
-fn binary(n: u8) -> Binary
+pub fn binary(n: u8) -> Binary
     requires { ⌜ (1 ≤ n) × (n ≤ 11) ⌝ }
     ensures { λ r. ⌜ ((here k : ℕ) (st : State) → operateOf here (operatorAt n k) st ≡ plainOf (twoOf (binaryOf r) st)) ⌝ }
 {

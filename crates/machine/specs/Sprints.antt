@@ -1,0 +1,44 @@
+-- The sprint: what the few registers of the common syllables stand for, and what is left of a run.
+use Prim.Native.Nat.{ℕ, _-_}
+use mathlib.Core.Path.{_≡_}
+use mathlib.Core.Bool.{true, _||_}
+use mathlib.Core.List.{List}
+use Rattle.machine.specs.declared.outcome.Registers.{Registers}
+use Rattle.machine.specs.declared.outcome.Hot.{Hot}
+use Rattle.machine.specs.declared.outcome.Hurry.{Hurry}
+use Rattle.machine.specs.declared.outcome.Hurry.the-variants.{On, Slow}
+use Rattle.machine.specs.Outcomes.{if_then_else_}
+use Rattle.machine.specs.States.{State}
+use Rattle.machine.specs.Steps.{Ended, next}
+use Rattle.machine.specs.Runs.{Run, counted, runFrom}
+use Rattle.machine.specs.Shapes.{stateOf}
+
+-- The registers of a set with the hot ones.
+abbrev pub upon : Registers → Hot → Registers
+upon g t = record { a = t .a; afull = t .afull; b = t .b; bfull = t .bfull; s = g .s; f = g .f; c = t .c; r = g .r; l = t .l; salf = g .salf; msff = g .msff }
+
+-- A emptied without a push, then a word put in it.
+unfoldable pub raised : Hot → ℕ → Hot
+raised t d = record { a = d; b = if t .afull then t .a else t .b; afull = true; bfull = t .afull || t .bfull; c = t .c; l = t .l }
+
+-- The descriptor d in A and its index x in B.
+abbrev pub elementOf : Hot → ℕ → ℕ → Hot
+elementOf t x d = record { a = d; b = x; afull = true; bfull = true; c = t .c; l = t .l }
+
+-- A common syllable that went on ended as the definition says; of one that is left nothing is said.
+abbrev pub quickly : List ℕ → Registers → Hurry → Ended → Type 0
+quickly core g (On t) o = next (stateOf core (upon g t)) ≡ o
+quickly core g Slow o = Unit {0}
+
+abbrev pub waits : Hurry → Type 0 → Type 0
+waits (On t) P = Unit {0}
+waits Slow P = P
+
+-- The same where core may be written: a syllable that is left keeps it.
+pub record Hurries (core core′ : List ℕ) (g : Registers) (r : Hurry) (o : Ended) : Type 0 where
+  pub same : quickly core′ g r o
+  pub kept : waits r (core′ ≡ core)
+
+-- What is left of a run of b syllables of which n are completed.
+unfoldable pub Left : ℕ → ℕ → State → Run
+Left b n st = counted n (runFrom (b - n) st)
