@@ -170,6 +170,14 @@ fn set(room: &mut [u8], at: usize, b: u8) {
     }
 }
 
+fn crosses(room: &mut [u8], at: usize)
+    requires { ⌜ at ≤ 4096 ⌝ }
+{
+    set(room, at, b'X');
+    set(room, at + 1, b'X');
+    set(room, at + 2, b'X');
+}
+
 // Copies the start of a name, up to 4,089 bytes, and answers how many they are.
 fn copied(name: &[u8], room: &mut [u8]) -> usize
     ensures { λ r. ⌜ r ≤ 4089 ⌝ }
@@ -192,12 +200,8 @@ fn beside(name: &[u8], room: &mut [u8]) -> usize
 {
     let i = copied(name, room);
     set(room, i, b'.');
-    set(room, i + 1, b'X');
-    set(room, i + 2, b'X');
-    set(room, i + 3, b'X');
-    set(room, i + 4, b'X');
-    set(room, i + 5, b'X');
-    set(room, i + 6, b'X');
+    crosses(room, i + 1);
+    crosses(room, i + 4);
     within(i + 7, &room[..])
 }
 

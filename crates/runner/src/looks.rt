@@ -53,7 +53,7 @@ pub fn look_at(fd: i32) -> Look {
     let s = state_of(fd);
     Look {
         regular: s.st_mode & libc::S_IFMT == libc::S_IFREG,
-        mode: s.st_mode & 0o7777,
+        mode: s.st_mode & 0o777,
         owner: s.st_uid,
         group: s.st_gid,
     }

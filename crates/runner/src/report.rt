@@ -30,10 +30,22 @@ fn meaning(number: u64) {
         2 => say::text(b", a core word at or above 2^48\n"),
         4 => say::text(b", core file length not a multiple of 6\n"),
         5 => say::text(b", budget over 1,000,000\n"),
+        _ => rule(number),
+    }
+}
+
+fn rule(number: u64) {
+    match number {
         30 => say::text(b", sheet length not 6 times 3 to 1,027\n"),
         31 => say::text(b", first bad record\n"),
         32 => say::text(b", code, stack words or table outside core, or two of them meeting\n"),
         33 => say::text(b", lowest named cell unfit\n"),
+        _ => flow_rule(number),
+    }
+}
+
+fn flow_rule(number: u64) {
+    match number {
         34 => say::text(b", first syllable breaking the scan\n"),
         35 => say::text(
             b", lowest branch whose target is outside the code or has a shape not empty\n",

@@ -75,11 +75,21 @@ pub fn address(a: u64) {
 }
 
 pub fn usage(fd: i32) {
+    usage_inspect(fd);
+    usage_run(fd);
+    usage_good(fd);
+    usage_bad(fd);
+}
+
+fn usage_inspect(fd: i32) {
     io::write_all(fd, b"runner inspect CORE SHEET\n");
     io::write_all(
         fd,
         b"  says whether the segment passes, or the number that refuses it and where\n",
     );
+}
+
+fn usage_run(fd: i32) {
     io::write_all(fd, b"runner run CORE SHEET [BUDGET [OUTPUT]]\n");
     io::write_all(
         fd,
@@ -89,11 +99,17 @@ pub fn usage(fd: i32) {
         fd,
         b"  and puts the core in place of OUTPUT (CORE) by a rename\n",
     );
+}
+
+fn usage_good(fd: i32) {
     io::write_all(fd, b"The last line of the output is the status:\n");
     io::write_all(
         fd,
         b"  0  passes, or ran to a communicate or to the end of its budget\n",
     );
+}
+
+fn usage_bad(fd: i32) {
     io::write_all(fd, b"  1  refused by a number: nothing is written\n");
     io::write_all(
         fd,

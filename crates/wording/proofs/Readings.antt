@@ -1,23 +1,21 @@
 -- Laws of a number read from text: i characters are read, and n is what they say, held one past the most.
 use Prim.Native.Nat.{ℕ, zero, suc, _+_, _-_, _*_, _≤_, _<_}
 use mathlib.Core.Path.{_≡_, refl, sym, _∙_, ap}
-use mathlib.Core.Bool.{Bool, true, false, _&&_}
+use mathlib.Core.Bool.{Bool, true, false}
 use mathlib.Core.List.{List, [], _∷_}
 use native.Mathlib.Omega.{arith}
 use native.Mathlib.Nat.{le-mul-of-pos-right, mul-le-mul}
 use native.Mathlib.Numerals.{add-one}
 use borrow.Author.Tests.{lt-ltb, le-ltb, le-leb, lt-leb, leb-true, leb-false, eq-eqb, ne-eqb}
 use lib.Dec.{leb}
-use lib.IntN.{ℤ, pos, negsuc, negℤ}
 use lib.ListN.{length, getD, drop, drop-of-length-le}
 use lib.Seq.{drop-cons}
 use Rattle.word.specs.Layout.{signOf, exponentOf, magnitudeOf}
 use Rattle.word.specs.Numbers.{signed, valueOf, wholeOf}
-use Rattle.wording.specs.declared.numbers.Reading.{Reading}
 use Rattle.wording.specs.declared.numbers.Reading.the-variants.{Number, Over, Wrong}
 use Rattle.wording.specs.declared.numbers.Signed.{Signed}
 use Rattle.wording.specs.declared.numbers.Signed.the-variants.{Plus, Minus, NotWhole}
-use Rattle.wording.specs.Numbers.{isDigit, areDigits, followed, atMost, readFrom, readingOf, cappedOf, plainSigned, signedInt, signedOf}
+use Rattle.wording.specs.Numbers.{areDigits, followed, readFrom, readingOf, cappedOf, plainSigned, signedInt, signedOf}
 
 -- ---- from text
 

@@ -1,7 +1,7 @@
 -- The runner's commands, by their words and how many arguments there are, the program's own name among them.
 -- Assumes nothing.
 use Prim.Native.Nat.{ℕ}
-use mathlib.Core.Bool.{Bool, true, false, _&&_}
+use mathlib.Core.Bool.{Bool, true, false}
 use mathlib.Core.List.{List, [], _∷_}
 use lib.Dec.{eqb, ltb}
 use Rattle.tape.specs.Files.{choose}

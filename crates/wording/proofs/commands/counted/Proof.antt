@@ -1,7 +1,4 @@
 use Rattle.wording.proofs.Choices.{counted-few, counted-many, counted-right}
-use mathlib.Core.Path.{_≡_, refl, sym, _∙_, ap}
-use native.Mathlib.Omega.{arith}
-use borrow.Author.Needs.{needs}
 use Rattle.wording.proofs.commands.counted.Statement.{statement}
 use Rattle.wording.proofs.commands.counted.Tie as tie
 use Rattle.wording.proofs.commands.counted.Reads as reads

@@ -2,7 +2,7 @@ use Prim.Native.Nat.{_-_, _≤_}
 use lib.ListN.{length, drop}
 use Rattle.wording.specs.Commands.{sameOf}
 use Rattle.wording.proofs.Texts.{same-short, same-differ, same-more, same-end}
-use mathlib.Core.Path.{_≡_, refl, sym, _∙_, ap}
+use mathlib.Core.Path.{_≡_, refl}
 use native.Mathlib.Omega.{arith}
 use borrow.Author.Needs.{needs}
 use Rattle.wording.proofs.commands.same.Statement.{statement}

@@ -1,6 +1,4 @@
 use Rattle.wording.proofs.Choices.{name-listed, name-none}
-use mathlib.Core.Path.{_≡_, refl, sym, _∙_, ap}
-use native.Mathlib.Omega.{arith}
 use borrow.Author.Needs.{needs}
 use Rattle.wording.proofs.names.name_of.Statement.{statement}
 use Rattle.wording.proofs.names.name_of.Tie as tie

@@ -1,7 +1,4 @@
 use Rattle.wording.proofs.Readings.{signed-minus, signed-zero, signed-plus}
-use mathlib.Core.Path.{_≡_, refl, sym, _∙_, ap}
-use native.Mathlib.Omega.{arith}
-use borrow.Author.Needs.{needs}
 use Rattle.wording.proofs.numbers.by_sign.Statement.{statement}
 use Rattle.wording.proofs.numbers.by_sign.Tie as tie
 use Rattle.wording.proofs.numbers.by_sign.Reads as reads

@@ -1,6 +1,4 @@
 use Rattle.wording.proofs.Readings.{capped-in, capped-past}
-use mathlib.Core.Path.{_≡_, refl, sym, _∙_, ap}
-use native.Mathlib.Omega.{arith}
 use borrow.Author.Needs.{needs}
 use Rattle.wording.proofs.numbers.capped.Statement.{statement}
 use Rattle.wording.proofs.numbers.capped.Tie as tie

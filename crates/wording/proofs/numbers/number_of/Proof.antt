@@ -1,8 +1,8 @@
-use Prim.Native.Nat.{_+_, _-_, _≤_, _<_}
+use Prim.Native.Nat.{_+_, _-_, _≤_}
 use lib.ListN.{length, drop}
 use Rattle.wording.specs.Numbers.{readingOf, readFrom}
 use Rattle.wording.proofs.Readings.{read-none, read-start, read-low, read-high, read-more, read-in, read-over, product, capped-small}
-use mathlib.Core.Path.{_≡_, refl, sym, _∙_, ap}
+use mathlib.Core.Path.{_≡_}
 use native.Mathlib.Omega.{arith}
 use borrow.Author.Needs.{needs}
 use Rattle.wording.proofs.numbers.number_of.Statement.{statement}

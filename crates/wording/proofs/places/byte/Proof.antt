@@ -1,5 +1,5 @@
 use lib.ListN.{List·getD-eq-default}
-use mathlib.Core.Path.{_≡_, refl, sym, _∙_, ap}
+use mathlib.Core.Path.{refl, sym}
 use native.Mathlib.Omega.{arith}
 use borrow.Author.Needs.{needs}
 use Rattle.wording.proofs.places.byte.Statement.{statement}

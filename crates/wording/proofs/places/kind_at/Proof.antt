@@ -1,6 +1,4 @@
 use Rattle.wording.proofs.Choices.{kind-0, kind-1, kind-2, kind-own, kind-past}
-use mathlib.Core.Path.{_≡_, refl, sym, _∙_, ap}
-use native.Mathlib.Omega.{arith}
 use borrow.Author.Needs.{needs}
 use Rattle.wording.proofs.places.kind_at.Statement.{statement}
 use Rattle.wording.proofs.places.kind_at.Tie as tie

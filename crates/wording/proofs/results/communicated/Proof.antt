@@ -1,7 +1,6 @@
 use lib.ListN.{List·getD-eq-default}
 use Prim.Native.Nat.{_+_, _*_}
-use mathlib.Core.Path.{_≡_, refl, sym, _∙_, ap}
-use native.Mathlib.Omega.{arith}
+use mathlib.Core.Path.{sym}
 use borrow.Author.Needs.{needs}
 use Rattle.wording.proofs.results.communicated.Statement.{statement}
 use Rattle.wording.proofs.results.communicated.Tie as tie

@@ -1,6 +1,4 @@
 use Rattle.wording.proofs.Choices.{status-ran, status-refused}
-use mathlib.Core.Path.{_≡_, refl, sym, _∙_, ap}
-use native.Mathlib.Omega.{arith}
 use borrow.Author.Needs.{needs}
 use Rattle.wording.proofs.results.status_of.Statement.{statement}
 use Rattle.wording.proofs.results.status_of.Tie as tie

@@ -1,7 +1,4 @@
 use Rattle.wording.proofs.Choices.{stop-spent, stop-communicated, stop-short}
-use mathlib.Core.Path.{_≡_, refl, sym, _∙_, ap}
-use native.Mathlib.Omega.{arith}
-use borrow.Author.Needs.{needs}
 use Rattle.wording.proofs.results.stop_status.Statement.{statement}
 use Rattle.wording.proofs.results.stop_status.Tie as tie
 use Rattle.wording.proofs.results.stop_status.Reads as reads
