@@ -60,7 +60,7 @@ int main(int count, char **words)
 {
     static struct timed rows[ROWS];
     struct flat sizes[SIZES];
-    int (*const parts[])(struct timed *) = {time_loads, time_files};
+    int (*const parts[])(struct timed *) = {time_loads, time_inspections, time_files};
     int n = 0;
     if (count != 2) {
         fprintf(stderr, "usage: bench FOLDER\n");

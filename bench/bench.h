@@ -54,6 +54,7 @@ void compare_speed(struct timed *t, double (*ours)(void), double (*plain)(void))
 
 /* Each answers how many rows it filled, or -1 after saying what differs. */
 int time_loads(struct timed *rows);
+int time_inspections(struct timed *rows);
 int time_files(struct timed *rows);
 
 enum { SIZES = 3 };
