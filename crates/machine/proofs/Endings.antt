@@ -1,11 +1,11 @@
 -- How a syllable ends: from its parts to the operator, the syllable, the fetch and the step.
 use Prim.Native.Nat.{ℕ, zero, suc, _+_, _*_, _-_, _/_, _%_, _^_, _≤_, _<_}
 use mathlib.Core.Path.{_≡_, refl, sym, _∙_, ap, subst}
-use mathlib.Core.Bool.{Bool, true, false, _&&_, false≢true}
+use mathlib.Core.Bool.{Bool, true, false, _&&_, _||_, false≢true}
 use mathlib.Core.List.{List, [], _∷_}
 use native.Mathlib.Nat.{le-of-suc-le-suc, not-suc-le-zero, mod-lt}
 use native.Mathlib.Omega.{arith}
-use borrow.Author.Tests.{eq-eqb, ne-eqb, leb-true}
+use borrow.Author.Tests.{eq-eqb, ne-eqb, eqb-true, eqb-false, leb-true}
 use lib.Dec.{eqb, ltb, leb}
 use lib.ListN.{length, getD}
 use Rattle.machine.specs.declared.outcome.Cause.{Cause}
@@ -19,6 +19,7 @@ use Rattle.machine.specs.declared.outcome.Done.the-variants.{Next, Com, 
 use Rattle.machine.specs.Outcomes.{Res, on, halt, if_then_else_, numberOf}
 use Rattle.machine.specs.States.{State, setPlace}
 use Rattle.machine.specs.Memory.{readOf}
+use Rattle.machine.specs.Calls.{callKOf}
 use Rattle.machine.specs.Steps.{Ended, next, communicated, stopped, plain, last, operateOf, performOf, advancedOf, fetchedBy, executeOf, registersFit, refusalOf, Stepped, endedAs, stepOf}
 use Rattle.machine.specs.Shapes.{stateOf, wentOf, doneOf, keeps, leaves, Does, Ends, plainAs, lastAs, answered}
 use Rattle.word.specs.Core.{lengthFits, wordsFit}
@@ -88,6 +89,30 @@ by-syllable here k st e d = rw e d
 pub by-operator : {core core′ : List ℕ} {r : Done} (here n k : ℕ) (st : State) → (n ≡ 37 → ⊥) → (n ≡ 38 → ⊥) → (n ≡ 39 → ⊥) → Ends core core′ r (operateOf here (operatorAt n k) st) → Ends core core′ r (performOf here (syllableAt n k) st)
 unfolding performOf
 by-operator here n k st a b c d = rw (ne-eqb n 37 a, ne-eqb n 38 b, ne-eqb n 39 c) d
+
+pub by-call : {core core′ : List ℕ} {r : Done} (here n k : ℕ) (st : State) → (eqb n 38 || eqb n 39) ≡ true → Ends core core′ r (plain (callKOf (eqb n 39) here st k)) → Ends core core′ r (performOf here (syllableAt n k) st)
+unfolding performOf
+by-call {core} {core′} {r} here n k st h d = go (eqb n 38) (eqb n 39) refl refl h
+  where
+    go : (x y : Bool) → eqb n 38 ≡ x → eqb n 39 ≡ y → (x || y) ≡ true → Ends core core′ r (performOf here (syllableAt n k) st)
+    go true y e _ _ = ends-as (as-number (eqb-true n 38 e)) d
+      where
+        as-number : n ≡ 38 → plain (callKOf (eqb n 39) here st k) ≡ performOf here (syllableAt n k) st
+        as-number q = rw q
+    go false true _ f _ = ends-as (as-number (eqb-true n 39 f)) d
+      where
+        as-number : n ≡ 39 → plain (callKOf (eqb n 39) here st k) ≡ performOf here (syllableAt n k) st
+        as-number q = rw q
+    go false false _ _ z = absurd (false≢true z)
+
+-- Neither of two tests.
+pub neither-first : (x y : Bool) → (x || y) ≡ false → x ≡ false
+neither-first false y h = refl
+neither-first true y h = absurd (false≢true (sym h))
+
+pub neither-second : (x y : Bool) → (x || y) ≡ false → y ≡ false
+neither-second false y h = h
+neither-second true y h = absurd (false≢true (sym h))
 
 -- ---- the fetch
 

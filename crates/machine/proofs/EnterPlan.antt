@@ -77,13 +77,3 @@ pub inside-is : (argument : Bool) (g : Registers) (d s b y f c : ℕ)
     → _≡_ {A = Registers} (record { a = 0; afull = false; b = b; bfull = false; s = s; f = f; c = c; r = g .r; l = 0; salf = true; msff = false }) (insideOf argument g d s)
 unfolding insideOf
 inside-is argument g d s b y f c hb hy hf hc = rw (hb, hf, hy, hc)
-
--- "argument on with MSFF off, left in A; otherwise enter"
-pub stays-in : (argument msff : Bool) → argument ≡ true → msff ≡ false → (argument && not msff) ≡ true
-stays-in argument msff e h = rw (e, h) refl
-
-pub enters-marked : (argument msff : Bool) → argument ≡ true → msff ≡ true → (argument && not msff) ≡ false
-enters-marked argument msff e h = rw (e, h) refl
-
-pub enters-plain : (argument msff : Bool) → argument ≡ false → (argument && not msff) ≡ false
-enters-plain argument msff e = rw e refl

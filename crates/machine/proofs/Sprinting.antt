@@ -1,18 +1,20 @@
 -- Laws of the sprint: the common cases of the definitions, and how they carry a run on.
 use Prim.Native.Nat.{ℕ, _+_, _*_, _-_, _/_, _%_, _≤_, _<_}
 use mathlib.Core.Path.{_≡_, refl, sym, _∙_, ap, subst}
-use mathlib.Core.Bool.{Bool, true, false, _&&_, _||_, false≢true}
+use mathlib.Core.Bool.{Bool, true, false, _&&_, _||_, not, false≢true}
 use mathlib.Core.List.{List}
 use native.Mathlib.Omega.{arith}
 use borrow.Author.Tests.{eq-eqb, ne-eqb, eqb-true}
 use lib.Dec.{eqb}
 use lib.IntN.{ℤ}
 use lib.ListN.{getD, set}
+use Rattle.machine.specs.declared.outcome.Cause.{Cause}
+use Rattle.machine.specs.declared.outcome.Cause.the-variants.{Index}
 use Rattle.machine.specs.declared.outcome.Registers.{Registers}
 use Rattle.machine.specs.declared.outcome.Hot.{Hot}
 use Rattle.machine.specs.declared.outcome.Hurry.{Hurry}
 use Rattle.machine.specs.declared.outcome.Hurry.the-variants.{On, Slow}
-use Rattle.machine.specs.Outcomes.{Res, on, _>>=_, if_then_else_}
+use Rattle.machine.specs.Outcomes.{Res, on, halt, _>>=_, if_then_else_}
 use Rattle.machine.specs.States.{State, setPlace}
 use Rattle.machine.specs.Memory.{baseOf, patternOf, kAddressOf, readOf}
 use Rattle.machine.specs.Stack.{pushBOf, aEmptyOf, aFullOf, bFullOf, bothFullOf}
@@ -23,12 +25,12 @@ use Rattle.machine.specs.Branches.{landingOf, jumpOf, ifOffOf}
 use Rattle.machine.specs.Steps.{Ended, next, plain, operateOf, performOf, executeOf}
 use Rattle.machine.specs.Runs.{Run}
 use Rattle.machine.specs.Shapes.{stateOf}
-use Rattle.machine.specs.Sprints.{upon, elementOf, raised, quickly, waits, Hurries, Left}
+use Rattle.machine.specs.Sprints.{upon, underOf, elementOf, raised, quickly, waits, Hurries, Left}
 use Rattle.machine.proofs.Calculus.{isYes, isNo, isGiven}
 use Rattle.machine.proofs.Indexes.{index-small}
 use Rattle.machine.proofs.Results.{worked}
 use Rattle.machine.proofs.Turns.{low-bits, last-bit}
-use Rattle.machine.proofs.Endings.{read-by, syllable-lt}
+use Rattle.machine.proofs.Endings.{read-by, syllable-lt, neither-first, neither-second}
 use Rattle.machine.proofs.Running.{left-on}
 use Rattle.word.specs.Kinds.{kindOf}
 use Rattle.word.specs.Addresses.{sumOf}
@@ -123,27 +125,70 @@ call-raised core g t here k m h a = ap plain (go (t .afull) (t .bfull) refl refl
     go true false e q _ = rw (a-moves core g t e q, address-upon core g (record { a = 0; b = t .a; afull = false; bfull = true; c = t .c; l = t .l }) here k, a, e)
     go true true e q z = absurd (false≢true (sym z))
 
+-- ---- what a part that went on tells
+
+clash : {A : Type 0} {x : A} {n : Cause} → halt n ≡ on x → ⊥
+clash e = let z : _≡_ {A = ℕ} 0 1 = cc in omega arith
+
+same-on : {A : Type 0} {x y : A} → on x ≡ on y → x ≡ y
+same-on e = cc
+
+of-given : {A B G : Type 0} (o : Res A) (f : A → Res B) {y : B} → (o >>= f) ≡ on y → ((x : A) → o ≡ on x → f x ≡ on y → G) → G
+unfolding _>>=_
+of-given (on x) f e k = k x refl e
+of-given (halt n) f e k = absurd (clash e)
+
+of-no : {B G : Type 0} (n : Cause) (b : Bool) (o : Res B) {y : B} → (if b then halt n else o) ≡ on y → (b ≡ false → o ≡ on y → G) → G
+unfolding if_then_else_
+of-no n true o e k = absurd (clash e)
+of-no n false o e k = k refl e
+
+unturned : (b : Bool) → not b ≡ false → b ≡ true
+unturned true e = refl
+unturned false e = absurd (false≢true (sym e))
+
 -- ---- an element of an array
 
-b-there : (core : List ℕ) (g : Registers) (t : Hot) (x d : ℕ) → bFullOf (stateOf core (upon g (elementOf t x d))) ≡ on (stateOf core (upon g (elementOf t x d)))
-unfolding bFullOf if_then_else_
-b-there core g t x d = refl
+module _ (core : List ℕ) (g : Registers) (t : Hot) (x d : ℕ) where
+  -- The descriptor is in A and its index in B.
+  called-with : State
+  called-with = stateOf core (upon g (record { a = d; b = x; afull = true; bfull = true; c = t .c; l = t .l }))
 
-indexes : (core : List ℕ) (g : Registers) (t : Hot) (x d s i e : ℕ) → s ≡ sizeOf d → indexOf x s ≡ on i → e ≡ withField (withField d 8 17 0) 33 47 (sumOf (addressOf d) i) → on (stateOf core (upon g (record { a = e; b = 0; afull = true; bfull = false; c = t .c; l = t .l }))) ≡ indexedOf (stateOf core (upon g (elementOf t x d))) d
-unfolding indexedOf
-indexes core g t x d s i e p h q =
-    isNo _ _ (ne-eqb (sizeOf d) 0 (λ (z : sizeOf d ≡ 0). omega (arith, index-small x s i h, p, z)))
-    (isGiven _ (b-there core g t x d)
-    (isGiven _ (ap (indexOf x) (sym p) ∙ h) (ap (λ (y : ℕ). on (stateOf core (upon g (record { a = y; b = 0; afull = true; bfull = false; c = t .c; l = t .l })))) q)))
+  b-there : bFullOf called-with ≡ on called-with
+  unfolding bFullOf if_then_else_ called-with
+  b-there = refl
 
-pub finds : (core : List ℕ) (g : Registers) (t : Hot) (x d s i e m w : ℕ) → s ≡ sizeOf d → indexOf x s ≡ on i → e ≡ withField (withField d 8 17 0) 33 47 (sumOf (addressOf d) i) → m ≡ addressOf e → readOf core m ≡ on w → flagOf w ≡ false → next (stateOf core (upon g (record { a = w; b = 0; afull = true; bfull = false; c = t .c; l = t .l }))) ≡ plain (dataCallOf false (stateOf core (upon g (elementOf t x d))) d)
-unfolding dataCallOf loadOf
-finds core g t x d s i e m w p h q o r f =
-    ap plain (isGiven _ (sym (indexes core g t x d s i e p h q)) (isNo _ _ refl (isGiven _ (ap (readOf core) (sym o) ∙ r) (isNo _ _ f refl))))
+  indexes : (i e : ℕ) → indexOf x (sizeOf d) ≡ on i → withField (withField d 8 17 0) 33 47 (sumOf (addressOf d) i) ≡ e → on (stateOf core (upon g (record { a = e; b = 0; afull = true; bfull = false; c = t .c; l = t .l }))) ≡ indexedOf called-with d
+  unfolding indexedOf called-with
+  indexes i e h q =
+      isNo _ _ (ne-eqb (sizeOf d) 0 (λ (z : sizeOf d ≡ 0). omega (arith, index-small x (sizeOf d) i h, z)))
+      (isGiven _ b-there (isGiven _ h (ap (λ (y : ℕ). on (stateOf core (upon g (record { a = y; b = 0; afull = true; bfull = false; c = t .c; l = t .l })))) (sym q))))
 
-pub calls-data : (core : List ℕ) (g : Registers) (t : Hot) (d m x : ℕ) → flagOf d ≡ true → signOf d ≡ false → presenceOf d ≡ true → (t .afull || t .bfull) ≡ true → x ≡ (if t .afull then t .a else t .b) → plain (dataCallOf false (stateOf core (upon g (elementOf t x d))) d) ≡ plain (callOf false m (stateOf core (upon g (raised t d))))
-unfolding callOf kindOf raised if_then_else_
-calls-data core g t d m x f s p h e = rw (f, s, p, h, e)
+  finds : (i e m w : ℕ) → indexOf x (sizeOf d) ≡ on i → withField (withField d 8 17 0) 33 47 (sumOf (addressOf d) i) ≡ e → m ≡ addressOf e → readOf core m ≡ on w → flagOf w ≡ false → on (stateOf core (upon g (record { a = w; b = 0; afull = true; bfull = false; c = t .c; l = t .l }))) ≡ dataCallOf false called-with d
+  unfolding dataCallOf loadOf
+  finds i e m w h q o r f = isGiven _ (sym (indexes i e h q)) (isNo _ _ refl (isGiven _ (ap (readOf core) (sym o) ∙ r) (isNo _ _ f refl)))
+
+  calls-data : (m : ℕ) → flagOf d ≡ true → signOf d ≡ false → presenceOf d ≡ true → underOf t ≡ on x → dataCallOf false called-with d ≡ callOf false m (stateOf core (upon g (raised t d)))
+  unfolding callOf kindOf raised underOf if_then_else_ called-with
+  calls-data m f s p u = go (t .afull) (t .bfull) refl refl
+    where
+      go : (v b : Bool) → t .afull ≡ v → t .bfull ≡ b → dataCallOf false called-with d ≡ callOf false m (stateOf core (upon g (raised t d)))
+      go true b e _ = let k : t .a ≡ x = same-on (rw e at u) in rw (f, s, p, e, k)
+      go false true e q = let k : t .b ≡ x = same-on (rw (e, q) at u) in rw (f, s, p, e, q, k)
+      go false false e q = absurd (clash (rw (e, q) at u))
+
+pub takes-element : (core : List ℕ) (g : Registers) (t : Hot) (d n e m w : ℕ) → flagOf d ≡ true → elementOf t d ≡ on e → m ≡ addressOf e → readOf core m ≡ on w → flagOf w ≡ false → next (stateOf core (upon g (record { a = w; b = 0; afull = true; bfull = false; c = t .c; l = t .l }))) ≡ plain (callOf false n (stateOf core (upon g (raised t d))))
+unfolding elementOf
+takes-element core g t d n e m w f h o r z =
+    of-no Index (signOf d || not (presenceOf d)) _ h
+    (λ b q. of-given (underOf t) _ q
+    (λ x u v. of-given (indexOf x (sizeOf d)) _ v
+    (λ i j y. ap plain
+    (finds core g t x d i e m w j (same-on y) o r z
+    ∙ calls-data core g t x d n f (neither-first (signOf d) (not (presenceOf d)) b) (unturned (presenceOf d) (neither-second (signOf d) (not (presenceOf d)) b)) u))))
+
+pub element-test : (d : ℕ) {s p b : Bool} → s ≡ signOf d → p ≡ presenceOf d → (s || not p) ≡ b → (signOf d || not (presenceOf d)) ≡ b
+element-test d {s} e f h = ap (λ (x : Bool). x || not (presenceOf d)) (sym e) ∙ ap (λ (x : Bool). s || not x) (sym f) ∙ h
 
 -- ---- both registers are full
 

@@ -9,6 +9,7 @@ use crate::outcome::Spot;
 use crate::outcome::Went;
 use crate::pushes::emptied;
 use crate::pushes::slot_if;
+use crate::stack::a_empty;
 use crate::stack::b_full;
 use crate::stack::slot;
 use word::Kind;
@@ -17,7 +18,7 @@ ghost use mathlib.Core.Path.{_≡_};
 ghost use mathlib.Core.Bool.{true};
 ghost use mathlib.Core.List.{List};
 ghost use Prim.Native.Nat.{ℕ, _≤_};
-ghost use lib.ListN.{length};
+ghost use lib.ListN.{length, getD};
 ghost use Rattle.machine.specs.Outcomes.{if_then_else_};
 ghost use Rattle.machine.specs.Calls.{indexOf, indexedOf, loadOf, dataCallOf, enterOf, programCallOf, leftOf, callOf, fetchedOf, callKOf};
 ghost use Rattle.machine.specs.Pushes.{framedOf, insideOf};
@@ -191,10 +192,7 @@ fn program_call(core: &mut [u64], desc: bool, g: Registers, d: u64) -> Went
     if word::mode(d) {
         return Went::Stop(Cause::Unbuilt);
     }
-    if word::argument(d) {
-        if g.msff {
-            return enter(core, desc, g, d);
-        }
+    if word::argument(d) & !g.msff {
         return Went::On(g);
     }
     enter(core, desc, g, d)
@@ -253,50 +251,34 @@ fn fetched(core: &mut [u64], desc: bool, here: u16, g: Registers, k: u16) -> Wen
     call(core, desc, m as u16, h)
 }
 
-// Where A and B are full, B is pushed; a later stop puts back the word that stood there.
-fn call_over(core: &mut [u64], desc: bool, here: u16, g: Registers, k: u16) -> Went
-    requires { ⌜ (length (now core) ≤ 32768) × (g .afull ≡ true) × (g .bfull ≡ true) ⌝ }
-    ensures { λ r. ⌜ Does (now (core .entry)) (now (core .exit)) r (callKOf desc here (stateOf (now (core .entry)) g) k) ⌝ }
+// The word at an address, 0 outside core.
+fn word_at(core: &[u64], m: usize) -> u64
+    ensures { λ r. ⌜ r ≡ getD (now (core .entry)) m 0 ⌝ }
 {
-    let up = match slot(core.len(), g.s, g.r) {
-        Spot::At(up) => up,
-        Spot::Stop(n) => {
-            return Went::Stop(n);
-        }
-    };
-    let was = core[up];
-    put(core, true, up, g.b);
-    let s = up as u16;
-    let mut h = g;
-    h.s = s;
-    h.b = g.a;
-    h.bfull = true;
-    h.a = 0;
-    h.afull = false;
-    match fetched(core, desc, here, h, k) {
-        Went::On(x) => Went::On(x),
-        Went::Stop(n) => {
-            put(core, true, up, was);
-            Went::Stop(n)
-        }
+    if m < core.len() {
+        return core[m];
     }
+    0
 }
 
-// OPDC and DESC.
+// OPDC and DESC. Where A and B are full, B is pushed first; a later stop puts back the word that stood there.
 pub fn call_k(core: &mut [u64], desc: bool, here: u16, g: Registers, k: u16) -> Went
     requires { ⌜ length (now core) ≤ 32768 ⌝ }
     ensures { λ r. ⌜ Does (now (core .entry)) (now (core .exit)) r (callKOf desc here (stateOf (now (core .entry)) g) k) ⌝ }
 {
-    if g.afull {
-        if g.bfull {
-            return call_over(core, desc, here, g, k);
+    let up = g.s as usize + 1;
+    let was = word_at(&core[..], up);
+    let h = match a_empty(core, g) {
+        Went::On(h) => h,
+        Went::Stop(n) => {
+            return Went::Stop(n);
         }
-        let mut h = g;
-        h.b = g.a;
-        h.bfull = true;
-        h.a = 0;
-        h.afull = false;
-        return fetched(core, desc, here, h, k);
+    };
+    match fetched(core, desc, here, h, k) {
+        Went::On(x) => Went::On(x),
+        Went::Stop(n) => {
+            put(core, g.afull & g.bfull, up, was);
+            Went::Stop(n)
+        }
     }
-    fetched(core, desc, here, g, k)
 }

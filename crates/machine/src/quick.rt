@@ -6,6 +6,7 @@ use crate::calls::moved;
 use crate::memory::k_address;
 use crate::memory::put;
 use crate::memory::read;
+use crate::outcome::Cause;
 use crate::outcome::Hot;
 use crate::outcome::Hurry;
 use crate::outcome::Part;
@@ -21,11 +22,11 @@ ghost use Prim.Native.Nat.{ℕ, _≤_, _<_};
 ghost use lib.ListN.{length};
 ghost use Rattle.machine.specs.Outcomes.{if_then_else_};
 ghost use Rattle.machine.specs.Stores.{litcOf, sndOf, stdOf};
-ghost use Rattle.machine.specs.Calls.{dataCallOf, callOf, callKOf};
+ghost use Rattle.machine.specs.Calls.{callOf, callKOf};
 ghost use Rattle.machine.specs.Branches.{ifOffOf};
 ghost use Rattle.machine.specs.Steps.{plain as plainOf, operateOf, performOf};
-ghost use Rattle.machine.specs.Shapes.{stateOf};
-ghost use Rattle.machine.specs.Sprints.{upon, elementOf, raised, quickly, Hurries, Left};
+ghost use Rattle.machine.specs.Shapes.{stateOf, partOf};
+ghost use Rattle.machine.specs.Sprints.{upon, underOf, elementOf, raised, quickly, Hurries, Left};
 ghost use Rattle.word.specs.Layout.{flagOf};
 ghost use Rattle.syllable.specs.Numbers.{tableOf, operatorAt, syllableAt};
 
@@ -56,27 +57,52 @@ fn filled(t: Hot, w: u64) -> Hurry
     })
 }
 
-// B's word once A is empty.
-fn under(t: Hot) -> u64
-    ensures { λ r. ⌜ r ≡ (if t .afull then t .a else t .b) ⌝ }
+// B's word once A is empty, where no pop is due.
+fn under(t: Hot) -> Part
+    ensures { λ r. ⌜ partOf r ≡ underOf t ⌝ }
 {
     if t.afull {
-        return t.a;
+        return Part::Word(t.a);
     }
-    t.b
+    if t.bfull {
+        return Part::Word(t.b);
+    }
+    Part::Stop(Cause::Index)
 }
 
-// OPDC's call of a data descriptor whose index is x.
-fn array(core: &[u64], t: Hot, x: u64, d: u64) -> Hurry
-    ensures { λ r. ⌜ ((g : Registers) → quickly (now (core .entry)) g r (plainOf (dataCallOf false (stateOf (now (core .entry)) (upon g (elementOf t x d))) d))) ⌝ }
+// The descriptor of the element that a present data descriptor and an index at hand name.
+fn element(t: Hot, d: u64) -> Part
+    ensures { λ r. ⌜ partOf r ≡ elementOf t d ⌝ }
 {
+    if word::sign(d) | !word::presence(d) {
+        return Part::Stop(Cause::Index);
+    }
+    let x = match under(t) {
+        Part::Word(x) => x,
+        Part::Stop(n) => {
+            return Part::Stop(n);
+        }
+    };
     let i = match index(x, word::size(d)) {
         Spot::At(i) => i,
         Spot::Stop(n) => {
+            return Part::Stop(n);
+        }
+    };
+    Part::Word(moved(d, i as u16))
+}
+
+// OPDC's call of a word whose flag is on: of an element of an array.
+fn flagged(core: &[u64], t: Hot, d: u64) -> Hurry
+    requires { ⌜ flagOf d ≡ true ⌝ }
+    ensures { λ r. ⌜ ((g : Registers) (m : ℕ) → quickly (now (core .entry)) g r (plainOf (callOf false m (stateOf (now (core .entry)) (upon g (raised t d)))))) ⌝ }
+{
+    let e = match element(t, d) {
+        Part::Word(e) => e,
+        Part::Stop(n) => {
             return Hurry::Slow;
         }
     };
-    let e = moved(d, i as u16);
     let w = match read(core, word::address(e) as usize) {
         Part::Word(w) => w,
         Part::Stop(n) => {
@@ -94,22 +120,6 @@ fn array(core: &[u64], t: Hot, x: u64, d: u64) -> Hurry
         c: t.c,
         l: t.l,
     })
-}
-
-// OPDC's call of a word whose flag is on: of a present data descriptor, where the index is at hand.
-fn flagged(core: &[u64], t: Hot, d: u64) -> Hurry
-    requires { ⌜ flagOf d ≡ true ⌝ }
-    ensures { λ r. ⌜ ((g : Registers) (m : ℕ) → quickly (now (core .entry)) g r (plainOf (callOf false m (stateOf (now (core .entry)) (upon g (raised t d)))))) ⌝ }
-{
-    if word::sign(d) {
-        return Hurry::Slow;
-    }
-    if word::presence(d) {
-        if t.afull | t.bfull {
-            return array(core, t, under(t), d);
-        }
-    }
-    Hurry::Slow
 }
 
 // OPDC of an operand or an element of an array.

@@ -167,14 +167,11 @@ fn perform(core: &mut [u64], here: u16, n: u8, k: u16, g: Registers) -> Done
     requires { ⌜ (length (now core) ≤ 32768) × (g .l < 4) ⌝ }
     ensures { λ r. ⌜ Ends (now (core .entry)) (now (core .exit)) r (performOf here (syllableAt n k) (stateOf (now (core .entry)) g)) ⌝ }
 {
-    if n == 38 {
-        return plain(call_k(core, false, here, g, k));
+    if (n == 38) | (n == 39) {
+        return plain(call_k(core, n == 39, here, g, k));
     }
     if n == 37 {
         return plain(litc(core, g, k));
-    }
-    if n == 39 {
-        return plain(call_k(core, true, here, g, k));
     }
     if n == 0 {
         return Done::Stop(Cause::Unbuilt);

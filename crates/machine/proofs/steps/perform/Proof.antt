@@ -1,10 +1,8 @@
-use mathlib.Core.Path.{refl, sym, ap, _∙_}
-use native.Mathlib.Omega.{arith}
-use Rattle.machine.proofs.Calculus.{known, reads}
-use Rattle.machine.proofs.Endings.{plains, lasts, plain-reads, ends-reads, ends-as, by-number, ends-unbuilt, by-syllable, by-operator, unfetched, syllable-lt, table-length, fetches, refused, step-next, step-com, step-stop}
+use mathlib.Core.Path.{refl}
+use borrow.Author.Tests.{eqb-false}
+use lib.Dec.{eqb}
 use Rattle.machine.specs.Steps.{operateOf, performOf}
-use Rattle.machine.specs.Shapes.{partOf, binaryOf, joinOf, changeOf, plainAs, lastAs}
-use Rattle.syllable.specs.Numbers.{operatorAt}
+use Rattle.machine.proofs.Endings.{plains, ends-reads, by-syllable, by-operator, by-call, neither-first, neither-second}
 use borrow.Author.Needs.{needs}
 use Rattle.machine.proofs.steps.perform.Statement.{statement}
 use Rattle.machine.proofs.steps.perform.Tie as tie
@@ -30,8 +28,7 @@ same-length c = search needs
 
 -- src/steps.rt:171:9
 returns : tie.Need-returns
-unfolding performOf
-returns c = by-syllable _ _ _ (c .before .before .before .before .before .if1 .taken) (plains (c .plain .ensures) (c .before .before .before .call-k .ensures))
+returns c = by-call _ (c .before .before .before .before .before .before .before .args .n) _ _ (c .before .before .before .before .before .if1 .taken) (plains (c .plain .ensures) (c .before .before .before .call-k .ensures))
 
 -- src/steps.rt:174:22
 litc-requires : tie.Need-litc-requires
@@ -50,51 +47,34 @@ returns-2 : tie.Need-returns-2
 unfolding performOf
 returns-2 c = by-syllable _ _ _ (c .before .before .before .before .before .if2 .taken) (plains (c .plain2 .ensures) (c .before .before .before .litc .ensures))
 
--- src/steps.rt:177:22
-call-k-requires-2 : tie.Need-call-k-requires-2
-call-k-requires-2 c κs = search needs
-
--- src/steps.rt:177:9
-plain-requires-3 : tie.Need-plain-requires-3
-plain-requires-3 c κs = search needs
-
--- src/steps.rt:177:9
-same-length-3 : tie.Need-same-length-3
-same-length-3 c = search needs
-
 -- src/steps.rt:177:9
 returns-3 : tie.Need-returns-3
-unfolding performOf
-returns-3 c = by-syllable _ _ _ (c .before .before .before .before .before .if3 .taken) (plains (c .plain3 .ensures) (c .before .before .before .call-k2 .ensures))
+unfolding performOf operateOf
+returns-3 c = by-syllable _ _ _ (c .if3 .taken) (record { same = refl; kept = refl })
 
 -- src/steps.rt:180:9
-returns-4 : tie.Need-returns-4
-unfolding performOf operateOf
-returns-4 c = by-syllable _ _ _ (c .if4 .taken) (record { same = refl; kept = refl })
-
--- src/steps.rt:183:9
 on-words-requires : tie.Need-on-words-requires
 on-words-requires c κs = search needs
 
--- src/steps.rt:183:9
-same-length-4 : tie.Need-same-length-4
-same-length-4 c = search needs
+-- src/steps.rt:180:9
+same-length-3 : tie.Need-same-length-3
+same-length-3 c = search needs
 
--- src/steps.rt:183:9
-returns-5 : tie.Need-returns-5
-returns-5 c = by-operator _ _ _ _ (c .before .before .before .before .before .if2 .left) (c .before .before .before .before .before .before .if1 .left) (c .before .before .before .before .if3 .left) (ends-reads _ (c .on-words .result) (c .on-words .ensures))
+-- src/steps.rt:180:9
+returns-4 : tie.Need-returns-4
+returns-4 c = by-operator _ _ _ _ (c .before .before .before .before .if2 .left) (eqb-false (c .before .before .before .before .before .before .before .args .n) 38 (neither-first (eqb (c .before .before .before .before .before .before .before .args .n) 38) (eqb (c .before .before .before .before .before .before .before .args .n) 39) (c .before .before .before .before .before .if1 .left))) (eqb-false (c .before .before .before .before .before .before .before .args .n) 39 (neither-second (eqb (c .before .before .before .before .before .before .before .args .n) 38) (eqb (c .before .before .before .before .before .before .before .args .n) 39) (c .before .before .before .before .before .if1 .left))) (ends-reads _ (c .on-words .result) (c .on-words .ensures))
 
--- src/steps.rt:185:5
+-- src/steps.rt:182:5
 operate-requires : tie.Need-operate-requires
 operate-requires c κs = search needs
 
 -- src/steps.rt:166:1
-same-length-5 : tie.Need-same-length-5
-same-length-5 c = search needs
+same-length-4 : tie.Need-same-length-4
+same-length-4 c = search needs
 
 -- src/steps.rt:166:1
-returns-6 : tie.Need-returns-6
-returns-6 c = by-operator _ _ _ _ (c .before .before .before .before .before .before .before .if2 .left) (c .before .before .before .before .before .before .before .before .if1 .left) (c .before .before .before .before .before .before .if3 .left) (c .before .before .operate .ensures)
+returns-5 : tie.Need-returns-5
+returns-5 c = by-operator _ _ _ _ (c .before .before .before .before .before .before .if2 .left) (eqb-false (c .before .before .before .before .before .before .before .before .before .args .n) 38 (neither-first (eqb (c .before .before .before .before .before .before .before .before .before .args .n) 38) (eqb (c .before .before .before .before .before .before .before .before .before .args .n) 39) (c .before .before .before .before .before .before .before .if1 .left))) (eqb-false (c .before .before .before .before .before .before .before .before .before .args .n) 39 (neither-second (eqb (c .before .before .before .before .before .before .before .before .before .args .n) 38) (eqb (c .before .before .before .before .before .before .before .before .before .args .n) 39) (c .before .before .before .before .before .before .before .if1 .left))) (c .before .before .operate .ensures)
 
 pub perform-spec : {M : Type 1} → statement M
 perform-spec =
@@ -108,14 +88,10 @@ perform-spec =
     plain-requires-2
     same-length-2
     returns-2
-    call-k-requires-2
-    plain-requires-3
-    same-length-3
     returns-3
-    returns-4
     on-words-requires
-    same-length-4
-    returns-5
+    same-length-3
+    returns-4
     operate-requires
-    same-length-5
-    returns-6)
+    same-length-4
+    returns-5)
