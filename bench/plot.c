@@ -1,7 +1,7 @@
 /* The ratios as bars and the cost of a syllable over core size as lines, in plain SVG. */
 #include "bench.h"
 
-enum { WIDTH = 860, LEFT = 200, BAR = 22, STEP = 34, TOP = 60, PLOT = 180 };
+enum { WIDTH = 920, LEFT = 200, BAR = 22, STEP = 34, TOP = 60, PLOT = 180 };
 
 static const char *const ours_ink = "#1f6f5c", *const plain_ink = "#b5651d";
 
@@ -15,32 +15,32 @@ static void line(FILE *out, double x1, double y1, double x2, double y2, const ch
     fprintf(out, "<line x1=\"%.1f\" y1=\"%.1f\" x2=\"%.1f\" y2=\"%.1f\" stroke=\"%s\"/>\n", x1, y1, x2, y2, ink);
 }
 
-static double largest_ratio(const struct timed *rows, int n)
+/* A ratio past twice is drawn as far as the plot goes, so that the others can be told apart. */
+enum { MOST_RATIO = 2 };
+
+static double drawn(double ratio)
 {
-    double most = 1.2;
-    for (int i = 0; i < n; i++)
-        if (rows[i].high > most)
-            most = rows[i].high;
-    return most;
+    return ratio < MOST_RATIO ? ratio : MOST_RATIO;
 }
 
 /* A bar for each ratio with its quartiles, and a line where the two are equally fast. */
 static void bars(FILE *out, const struct timed *rows, int n)
 {
-    double scale = (WIDTH - LEFT - 90) / largest_ratio(rows, n);
+    double scale = (WIDTH - LEFT - 140.0) / MOST_RATIO, even = LEFT + scale;
     char label[64];
     text(out, 20, 30, "start", "Speed of ours divided by the speed of plain C (median, quartiles)");
     for (int i = 0; i < n; i++) {
         double y = TOP + STEP * i, middle = y + BAR / 2.0;
         text(out, LEFT - 10, middle + 5, "end", rows[i].name);
         fprintf(out, "<rect x=\"%d\" y=\"%.1f\" width=\"%.1f\" height=\"%d\" fill=\"%s\"/>\n", LEFT, y,
-                rows[i].ratio * scale, BAR, ours_ink);
-        line(out, LEFT + rows[i].low * scale, middle, LEFT + rows[i].high * scale, middle, "black");
-        snprintf(label, sizeof label, "%.2f", rows[i].ratio);
-        text(out, LEFT + rows[i].high * scale + 8, middle + 5, "start", label);
+                drawn(rows[i].ratio) * scale, BAR, ours_ink);
+        line(out, LEFT + drawn(rows[i].low) * scale, middle, LEFT + drawn(rows[i].high) * scale, middle, "black");
+        snprintf(label, sizeof label, "%.2f%s", rows[i].ratio, rows[i].ratio > MOST_RATIO ? " (cut off)" : "");
+        double end = LEFT + drawn(rows[i].high) * scale;
+        text(out, (end < even && end > even - 45 ? even : end) + 8, middle + 5, "start", label);
     }
-    line(out, LEFT + scale, TOP - 8, LEFT + scale, TOP + STEP * n, "black");
-    text(out, LEFT + scale, TOP - 12, "middle", "1.0");
+    line(out, even, TOP - 8, even, TOP + STEP * n, "black");
+    text(out, even, TOP - 12, "middle", "1.0");
 }
 
 static void curve(FILE *out, double top, double scale, const double *values, const char *ink, const char *name)
