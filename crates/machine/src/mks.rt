@@ -12,7 +12,7 @@ ghost use mathlib.Core.Bool.{_&&_, not};
 ghost use Prim.Native.Nat.{_≤_};
 ghost use lib.ListN.{length};
 ghost use Rattle.machine.specs.Marks.{mksOf};
-ghost use Rattle.machine.specs.Pushes.{piledOf, markedOf};
+ghost use Rattle.machine.specs.Pushes.{markedOf};
 ghost use Rattle.machine.specs.Shapes.{stateOf, Does};
 
 // SALF on and MSFF off: the mark stands at 64R+7 too.
@@ -23,17 +23,6 @@ fn also(g: Registers) -> bool
         return !g.msff;
     }
     false
-}
-
-// Writes what MKS pushes: B, A and the mark, which may stand at m too.
-fn pile(core: &mut [u64], twice: bool, g: Registers, p: usize, q: usize, s: usize, m: usize)
-    ensures { λ _. ⌜ now (core .exit) ≡ piledOf twice g p q s m (now (core .entry)) ⌝ }
-{
-    let mark = word::mscw(g.r, g.msff, g.salf, g.f);
-    put(core, g.bfull, p, g.b);
-    put(core, g.afull, q, g.a);
-    put(core, true, s, mark);
-    put(core, twice, m, mark);
 }
 
 // The registers after MKS.
@@ -82,6 +71,10 @@ pub fn mks(core: &mut [u64], g: Registers) -> Went
             return Went::Stop(n);
         }
     };
-    pile(core, twice, g, p, q, s, m);
+    let mark = word::mscw(g.r, g.msff, g.salf, g.f);
+    put(core, g.bfull, p, g.b);
+    put(core, g.afull, q, g.a);
+    put(core, true, s, mark);
+    put(core, twice, m, mark);
     Went::On(marked(g, s as u16))
 }

@@ -1,5 +1,5 @@
 -- The stops and the writes are those of the plan, which is the definition (MksPlan).
-use Rattle.machine.proofs.MksPlan.{mksPlan, mks-plan}
+use Rattle.machine.proofs.MksPlan.{mksPlan, mks-plan, piles}
 use Rattle.machine.proofs.Sizes.{slot-in, slot-if-small}
 use Rattle.machine.proofs.Answers.{states}
 use Rattle.machine.specs.Shapes.{spotOf}
@@ -80,11 +80,23 @@ returns-4 : tie.Need-returns-4
 unfolding mksPlan
 returns-4 c = stays (isGiven _ (known spotOf (c .before .before .before .before .before .before .before .before .before .before .before .before .before .before .before .before .before .slot-if .ensures) (c .before .before .before .before .before .before .before .before .before .before .before .before .before .before .before .p .given .1)) (isGiven _ (known spotOf (c .before .before .before .before .before .before .before .before .before .before .before .before .before .slot-if2 .ensures) (c .before .before .before .before .before .before .before .before .before .before .before .q .given .1)) (isGiven _ (known spotOf (c .before .before .before .before .before .before .before .before .before .slot .ensures) (c .before .before .before .before .before .before .before .s .given .1)) (isCut _ (known spotOf (c .before .before .before .in-core-if .ensures) (c .before .n4 .given .1))))) ∙ mks-plan _ _ (c .before .before .before .before .before .also .ensures))
 
-pile-requires : tie.Need-pile-requires
-pile-requires c κs = search needs
+mscw-requires : tie.Need-mscw-requires
+mscw-requires c κs = search needs
+
+put-requires : tie.Need-put-requires
+put-requires c κs = search needs
+
+put-requires-2 : tie.Need-put-requires-2
+put-requires-2 c κs = search needs
+
+put-requires-3 : tie.Need-put-requires-3
+put-requires-3 c κs = search needs
+
+put-requires-4 : tie.Need-put-requires-4
+put-requires-4 c κs = search needs
 
 cast-marked : tie.Need-cast-marked
-cast-marked c = omega (arith, slot-in _ _ _ _ (known spotOf (c .before .before .before .before .before .before .before .before .before .before .before .before .before .slot .ensures) (c .before .before .before .before .before .before .before .before .before .before .before .s .given .1)), c .before .before .before .before .before .before .before .before .before .before .before .before .before .before .before .before .before .before .before .before .before .before .before .pre)
+cast-marked c = omega (arith, slot-in _ _ _ _ (known spotOf (c .before .before .before .before .before .before .before .before .before .before .before .before .before .before .before .before .before .before .before .before .before .before .before .before .before .before .slot .ensures) (c .before .before .before .before .before .before .before .before .before .before .before .before .before .before .before .before .before .before .before .before .before .before .before .before .s .given .1)), c .before .before .before .before .before .before .before .before .before .before .before .before .before .before .before .before .before .before .before .before .before .before .before .before .before .before .before .before .before .before .before .before .before .before .before .before .pre)
 
 marked-requires : tie.Need-marked-requires
 marked-requires c κs = search needs
@@ -94,7 +106,7 @@ same-length c = search needs
 
 returns-5 : tie.Need-returns-5
 unfolding mksPlan
-returns-5 c = wrote (c .before .before .before .pile .ensures) (isGiven _ (known spotOf (c .before .before .before .before .before .before .before .before .before .before .before .before .before .before .before .before .before .before .before .before .before .before .slot-if .ensures) (c .before .before .before .before .before .before .before .before .before .before .before .before .before .before .before .before .before .before .before .before .p .given .1)) (isGiven _ (known spotOf (c .before .before .before .before .before .before .before .before .before .before .before .before .before .before .before .before .before .before .slot-if2 .ensures) (c .before .before .before .before .before .before .before .before .before .before .before .before .before .before .before .before .q .given .1)) (isGiven _ (known spotOf (c .before .before .before .before .before .before .before .before .before .before .before .before .before .before .slot .ensures) (c .before .before .before .before .before .before .before .before .before .before .before .before .s .given .1)) (isGiven _ (known spotOf (c .before .before .before .before .before .before .before .before .in-core-if .ensures) (c .before .before .before .before .before .before .m .given .1)) (states (c .marked .ensures))))) ∙ mks-plan _ _ (c .before .before .before .before .before .before .before .before .before .before .also .ensures))
+returns-5 c = wrote (piles _ _ _ _ _ _ _ _ _ _ _ _ (c .before .before .before .before .before .before .before .before .before .before .before .before .before .before .before .before .before .mscw .ensures) (c .before .before .before .before .before .before .before .before .before .before .before .before .before .before .before .put .ensures) (c .before .before .before .before .before .before .before .before .before .before .before .put2 .ensures) (c .before .before .before .before .before .before .before .put3 .ensures) (c .before .before .before .put4 .ensures)) (isGiven _ (known spotOf (c .before .before .before .before .before .before .before .before .before .before .before .before .before .before .before .before .before .before .before .before .before .before .before .before .before .before .before .before .before .before .before .before .before .before .before .slot-if .ensures) (c .before .before .before .before .before .before .before .before .before .before .before .before .before .before .before .before .before .before .before .before .before .before .before .before .before .before .before .before .before .before .before .before .before .p .given .1)) (isGiven _ (known spotOf (c .before .before .before .before .before .before .before .before .before .before .before .before .before .before .before .before .before .before .before .before .before .before .before .before .before .before .before .before .before .before .before .slot-if2 .ensures) (c .before .before .before .before .before .before .before .before .before .before .before .before .before .before .before .before .before .before .before .before .before .before .before .before .before .before .before .before .before .q .given .1)) (isGiven _ (known spotOf (c .before .before .before .before .before .before .before .before .before .before .before .before .before .before .before .before .before .before .before .before .before .before .before .before .before .before .before .slot .ensures) (c .before .before .before .before .before .before .before .before .before .before .before .before .before .before .before .before .before .before .before .before .before .before .before .before .before .s .given .1)) (isGiven _ (known spotOf (c .before .before .before .before .before .before .before .before .before .before .before .before .before .before .before .before .before .before .before .before .before .in-core-if .ensures) (c .before .before .before .before .before .before .before .before .before .before .before .before .before .before .before .before .before .before .before .m .given .1)) (states (c .marked .ensures))))) ∙ mks-plan _ _ (c .before .before .before .before .before .before .before .before .before .before .before .before .before .before .before .before .before .before .before .before .before .before .before .also .ensures))
 
 pub mks-spec : {M : Type 1} → statement M
 mks-spec =
@@ -122,7 +134,11 @@ mks-spec =
     enum-known-m
     enum-known-n-4
     returns-4
-    pile-requires
+    mscw-requires
+    put-requires
+    put-requires-2
+    put-requires-3
+    put-requires-4
     cast-marked
     marked-requires
     same-length
