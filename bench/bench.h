@@ -27,9 +27,9 @@ void pair_level(struct pair *p);
 /* NULL, or what differs between the two forms. */
 const char *pair_difference(const struct pair *p);
 
-/* ---- loads.c: the three programs */
+/* ---- loads.c: the programs */
 
-enum { LOADS = 3, SMALLEST = 512 };
+enum { LOADS = 4, SMALLEST = 512 };
 struct load {
     const char *name;
     void (*lay)(struct pair *p);

@@ -1,4 +1,4 @@
-/* The three loads: loops that never stop, so that every run spends its budget. */
+/* The loads: loops that never stop, so that every run spends its budget. */
 #include "bench.h"
 
 #include <string.h>
@@ -9,7 +9,8 @@
 
 enum {
     ADD = 00101, SUB = 00301, EQL = 04425, LSS = 04225, NOP = 00055,
-    STD = 00421, SND = 01021, BBW = 04131, BBC = 00131, MKS = 00441, XIT = 00435
+    STD = 00421, SND = 01021, BBW = 04131, BBC = 00131, MKS = 00441, XIT = 00435,
+    DUP = 02025, XCH = 01025, DEL = 00065, LND = 00415, LOR = 00215, CHS = 01031, TOP = 02031, LOD = 02021
 };
 
 /* The table is at 64R with R=1; the stack grows from S=31 below it. */
@@ -84,10 +85,24 @@ static void lay_calls(struct pair *p)
     p->words[TABLE + INNER] = program | INNER_AT;
 }
 
+/* The syllables that none of the others has, which the run leaves to its full step. */
+static void lay_rare(struct pair *p)
+{
+    static const unsigned code[] = {
+        LITC(3), DUP, XCH, LND,
+        LITC(5), LOR, CHS, TOP,
+        DEL, DEL, LITC(SUM), LOD,
+        DEL, LITC(15), BBW, NOP,
+    };
+    LAY(p, 0, code);
+    p->words[TABLE + SUM] = 7;
+}
+
 const struct load loads[LOADS] = {
     {"arithmetic loop", lay_arithmetic},
     {"array sums and stores", lay_array},
     {"subroutine calls", lay_calls},
+    {"rarer syllables", lay_rare},
 };
 
 void load_lay(const struct load *load, size_t length, struct pair *p)

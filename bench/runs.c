@@ -1,4 +1,4 @@
-/* The run on the three loads, and the cost of a syllable in cores of three sizes. */
+/* The run on the loads, and the cost of a syllable in cores of three sizes. */
 #include "bench.h"
 
 #include <string.h>
