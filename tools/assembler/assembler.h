@@ -87,7 +87,7 @@ void give(unsigned line, unsigned address, uint64_t word);
 void parse_code(void);
 void finish_code(void);
 
-/* files.c: answers false if it wrote nothing. */
+/* files.c: answers false, having said why, if it wrote nothing. */
 bool write_files(const char *source, const char *core_name, const char *sheet_name);
 
 /* list.c */

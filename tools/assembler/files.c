@@ -2,6 +2,7 @@
 #define _POSIX_C_SOURCE 200809L
 #include "assembler.h"
 
+#include <errno.h>
 #include <stdio.h>
 #include <string.h>
 #include <sys/stat.h>
@@ -39,18 +40,26 @@ static void make_sheet(struct output *to)
             put_record(to, segment.cell[i].kind, i, 1);
 }
 
+/* Says why a file cannot be written; answers false for its callers. */
+static bool cannot(const char *name, const char *why)
+{
+    fprintf(stderr, "assemble: cannot write %s: %s\n", name, why);
+    return false;
+}
+
 /* "x" refuses a file that is there; nothing but a plain file, such as a device, is renamed over. */
 static bool write_beside(struct output *to)
 {
     struct stat is;
     if (stat(to->name, &is) == 0 && !S_ISREG(is.st_mode))
-        return false;
+        return cannot(to->name, "it is no plain file");
     FILE *out = fopen(to->beside, "wbx");
     if (out == NULL)
-        return false;
+        return cannot(to->beside, strerror(errno));
     bool whole = fwrite(to->bytes, 1, to->length, out) == to->length;
     if (fclose(out) == 0 && whole)
         return true;
+    cannot(to->beside, strerror(errno));
     remove(to->beside);
     return false;
 }
@@ -66,7 +75,10 @@ static bool write_both(struct output *core, struct output *sheet)
     if (rename(core->beside, core->name) == 0) {
         if (rename(sheet->beside, sheet->name) == 0)
             return true;
+        cannot(sheet->name, strerror(errno));
         remove(core->name); /* no core without its sheet */
+    } else {
+        cannot(core->name, strerror(errno));
     }
     remove(core->beside);
     remove(sheet->beside);
@@ -85,12 +97,12 @@ bool write_files(const char *source, const char *core_name, const char *sheet_na
     core.name = core_name;
     sheet.name = sheet_name;
     if (!name_beside(&core) || !name_beside(&sheet))
-        return false;
+        return cannot(core_name, "a name is too long");
     const char *names[] = {source, core.name, sheet.name, core.beside, sheet.beside};
     for (unsigned i = 0; i < 5; i++)
         for (unsigned j = 0; j < i; j++)
             if (strcmp(names[i], names[j]) == 0)
-                return false;
+                return cannot(names[i], "it is named twice, or is the source");
     make_core(&core);
     make_sheet(&sheet);
     return write_both(&core, &sheet);

@@ -37,13 +37,13 @@ int main(int argc, char **argv)
     if (argc == 3 && strcmp(argv[1], "--list") == 0) {
         read_segment(argv[2]);
         list();
-        return fflush(stdout) == 0 ? 0 : 1;
+        if (fflush(stdout) == 0 && !ferror(stdout))
+            return 0;
+        fprintf(stderr, "assemble: cannot write the list\n");
+        return 1;
     }
     if (argc != 4)
         return usage();
     read_segment(argv[1]);
-    if (write_files(argv[1], argv[2], argv[3]))
-        return 0;
-    fprintf(stderr, "assemble: cannot write %s and %s, by way of these names and .new\n", argv[2], argv[3]);
-    return 1;
+    return write_files(argv[1], argv[2], argv[3]) ? 0 : 1;
 }

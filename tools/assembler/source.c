@@ -2,6 +2,7 @@
 #include "assembler.h"
 
 #include <ctype.h>
+#include <errno.h>
 #include <stdarg.h>
 #include <stdio.h>
 #include <stdlib.h>
@@ -32,7 +33,7 @@ void open_source(const char *path)
     FILE *in = fopen(path, "rb");
     size_t length = in == NULL ? 0 : fread(text, 1, MOST_SOURCE + 1, in);
     if (in == NULL || ferror(in)) {
-        fprintf(stderr, "assemble: cannot read %s\n", path);
+        fprintf(stderr, "assemble: cannot read %s: %s\n", path, strerror(errno));
         exit(1);
     }
     fclose(in);
