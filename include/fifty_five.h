@@ -13,9 +13,9 @@
  * one thing that is not checked. Any lengths and any bytes are taken. A call needs 300 KB of
  * stack and no heap.
  *
- * Answers. Each call answers one of the numbers below. 1 to 5 and 30 to 36 refuse: no buffer was
- * written. The checks are made in the order 4, 1, 3, then 30 to 36, then 5; the first that fails is
- * the answer.
+ * Answers. Each call answers one of the numbers below. 1 to 5 and 30 to 36 refuse: no core and no
+ * register set was written. The checks are made in the order 4, 1, 3, then 30 to 36, then 5; the
+ * first that fails is the answer.
  * (Paper 01's 2, a word at or above 2^48, cannot come: six bytes say no such word.)
  */
 #ifndef FIFTY_FIVE_H
