@@ -6,10 +6,7 @@
 #include <stdint.h>
 #include <stdio.h>
 
-#include "../include/fifty_five.h"
-#include "../second/fifty_five_second.h"
-
-enum { MOST = FIFTY_FIVE_MOST_WORDS, WORD = FIFTY_FIVE_WORD_BYTES, ROW = FIFTY_FIVE_ROW_BYTES };
+#include "../second/compare/crossing.h"
 
 /* ---- both.c: one state, held in both machines' forms */
 
@@ -20,8 +17,6 @@ struct pair {
     struct second_registers g;
 };
 
-void words_to_bytes(const uint64_t *words, size_t n, uint8_t *bytes);
-void registers_to_row(const struct second_registers *g, uint8_t row[ROW]);
 /* Fills the bytes and the row from the words and the registers. */
 void pair_level(struct pair *p);
 /* NULL, or what differs between the two forms. */

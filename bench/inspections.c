@@ -1,5 +1,6 @@
 /* The inspector on the longest segment that passes: 4,096 syllables, a table of 1,024 cells, arrays of 1,023 words. */
 #include "bench.h"
+#include "../second/codes.h"
 
 #include <string.h>
 
@@ -15,15 +16,15 @@ static void lay_record(unsigned i, unsigned kind, unsigned first, unsigned count
     memcpy(sheet + WORD * i, record, WORD);
 }
 
-/* Sums and stores over number cells and elements of arrays, over and over; LITC 0, COM at the end. */
+/* Sums and stores over number cells and elements of an array, over and over; LITC 0, COM at the end. */
 static void lay_segment(void)
 {
     static const unsigned round[] = {
-        10 << 2 | 2, NUMBERS << 2 | 2, 11 << 2 | 2, 00101, /* OPDC 10, OPDC of an array, OPDC 11, ADD */
-        12 << 2 | 2, NUMBERS << 2 | 3, 00421, 00055,       /* OPDC 12, DESC of an array, STD, NOP */
+        OPDC(10), OPDC(NUMBERS), OPDC(11), ADD,
+        OPDC(12), DESC(NUMBERS), STD, NOP,
     };
     for (unsigned i = 0; i < SYLLABLES; i++) {
-        unsigned syllable = i == SYLLABLES - 2 ? 0 : i == SYLLABLES - 1 ? 01011 : i >= SYLLABLES - 8 ? 00055 : round[i % 8];
+        unsigned syllable = i < SYLLABLES - 8 ? round[i % 8] : i < SYLLABLES - 2 ? NOP : i < SYLLABLES - 1 ? LITC(0) : COM;
         words[i / 4] |= (uint64_t)syllable << (36 - 12 * (i % 4));
     }
     for (unsigned i = 0; i < ARRAYS; i++)

@@ -1,17 +1,8 @@
 /* The loads: loops that never stop, so that every run spends its budget. */
 #include "bench.h"
+#include "../second/codes.h"
 
 #include <string.h>
-
-#define LITC(k) ((k) << 2)
-#define OPDC(k) ((k) << 2 | 2)
-#define DESC(k) ((k) << 2 | 3)
-
-enum {
-    ADD = 00101, SUB = 00301, EQL = 04425, LSS = 04225, NOP = 00055,
-    STD = 00421, SND = 01021, BBW = 04131, BBC = 00131, MKS = 00441, XIT = 00435,
-    DUP = 02025, XCH = 01025, DEL = 00065, LND = 00415, LOR = 00215, CHS = 01031, TOP = 02031, LOD = 02021
-};
 
 /* The table is at 64R with R=1; the stack grows from S=31 below it. */
 enum { TABLE = 64, SUM = 10, COUNT = 11, ARRAY = 12, OUTER = 13, INNER = 14, LAST = 15 };

@@ -46,24 +46,15 @@ static int ask(const struct panel *panel, const char *question, char *line, size
     }
 }
 
-static void ask_run(struct panel *panel)
+/* Does what the line says, or says that it was left. */
+static void ask_then(struct panel *panel, const char *question, void (*then)(struct panel *, const char *), const char *left)
 {
     char line[PANEL_NAME_ROOM];
 
-    if (!ask(panel, " run how many (decimal)? ", line, sizeof line))
-        panel_say(panel, "no run");
+    if (ask(panel, question, line, sizeof line))
+        then(panel, line);
     else
-        panel_run(panel, line);
-}
-
-static void ask_set(struct panel *panel)
-{
-    char line[PANEL_NAME_ROOM];
-
-    if (!ask(panel, " set NAME OCTAL? ", line, sizeof line))
-        panel_say(panel, "nothing set");
-    else
-        panel_set(panel, line);
+        panel_say(panel, left);
 }
 
 static void ask_load(struct panel *panel)
@@ -99,8 +90,8 @@ static int do_key(struct panel *panel, int key)
     switch (key) {
     case 's':
     case ' ': panel_step(panel); return 1;
-    case 'r': ask_run(panel); return 1;
-    case '=': ask_set(panel); return 1;
+    case 'r': ask_then(panel, " run how many (decimal)? ", panel_run, "no run"); return 1;
+    case '=': ask_then(panel, " set NAME OCTAL? ", panel_set, "nothing set"); return 1;
     case 'l': ask_load(panel); return 1;
     case 'w': ask_write(panel); return 1;
     case '?': paint_help(); return 1;

@@ -6,25 +6,12 @@
 #include <stddef.h>
 #include <stdint.h>
 
+#include "codes.h"
 #include "fifty_five_second.h"
 
-/* The paper's codes, so that the machine's own table is not trusted here. */
-enum {
-    ADD = 00101, SUB = 00301, MUL = 00401, IDV = 03001, RDV = 07001,
-    GTR = 00225, GEQ = 00125, EQL = 04425, LEQ = 04125, LSS = 04225, NEQ = 00425,
-    LND = 00415, LOR = 00215, LQV = 01015, LNG = 00115,
-    MOP = 02015, MDS = 04015, SSP = 04431, SSN = 00431, CHS = 01031, TOP = 02031,
-    XCH = 01025, DUP = 02025, DEL = 00065, NOP = 00055,
-    LOD = 02021, STD = 00421, SND = 01021, INX = 00141,
-    BFW = 04231, BBW = 04131, BFC = 00231, BBC = 00131,
-    MKS = 00441, XIT = 00435, COM = 01011
-};
-/* All of them, in the paper's order. */
+/* The operators, in the paper's order. */
 enum { OPERATORS = 36 };
 extern const unsigned operators[OPERATORS];
-#define LITC(k) ((unsigned)(k) << 2)
-#define OPDC(k) ((unsigned)(k) << 2 | 2)
-#define DESC(k) ((unsigned)(k) << 2 | 3)
 
 /* Bit n of a word, and the largest magnitude. */
 #define ON(n) (UINT64_C(1) << (47 - (n)))

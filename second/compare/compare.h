@@ -6,10 +6,8 @@
 #include <stddef.h>
 #include <stdint.h>
 
-#include "../../include/fifty_five.h"
-#include "../fifty_five_second.h"
+#include "crossing.h"
 
-enum { MOST = FIFTY_FIVE_MOST_WORDS, WORD = FIFTY_FIVE_WORD_BYTES, ROW = FIFTY_FIVE_ROW_BYTES };
 
 /* Bit n of a word, and the largest magnitude. */
 #define ON(n) (UINT64_C(1) << (47 - (n)))
@@ -30,9 +28,6 @@ enum planted {
 };
 extern enum planted planted;
 
-void words_to_bytes(const uint64_t *words, size_t n, uint8_t *bytes);
-void bytes_to_words(const uint8_t *bytes, size_t n, uint64_t *words);
-void registers_to_row(const struct second_registers *g, uint8_t row[ROW]);
 
 /* The state moves on; `difference` is NULL, or says in what the two machines differ. */
 struct verdict {

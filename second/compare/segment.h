@@ -2,7 +2,7 @@
 #ifndef SECOND_SEGMENT_H
 #define SECOND_SEGMENT_H
 
-#include "codes.h"
+#include "../codes.h"
 #include "compare.h"
 
 enum { MOST_RECORDS = 1027, SHEET_ROOM = 6 * 1100, MOST_CELLS = 1024, MOST_SYLLABLES = 4096 };

@@ -1,4 +1,4 @@
-/* The syllables of paper 01, by name. */
+/* The syllables of paper 01, by name: for tests, which do not trust the machine's own table. */
 #ifndef SECOND_CODES_H
 #define SECOND_CODES_H
 
