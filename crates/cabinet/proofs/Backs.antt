@@ -12,24 +12,25 @@ use Rattle.word.specs.Core.{lengthFits, wordsFit}
 use Rattle.machine.specs.declared.outcome.Registers.{Registers}
 use Rattle.machine.specs.declared.outcome.Answer.{Answer}
 use Rattle.machine.specs.declared.outcome.Ran.{Ran}
-use Rattle.machine.specs.Outcomes.{if_then_else_}
-use Rattle.machine.specs.Shapes.{stateOf, answered, ranOf}
-use Rattle.machine.specs.Steps.{registersFit, refusalOf, Stepped, endedAs, executeOf, stepOf}
-use Rattle.machine.specs.Runs.{Run, endsAt, runFrom, runOf}
-use Rattle.laws.proofs.Fit.{Fit}
+use Rattle.word.specs.Choices.{if_then_else_}
+use Rattle.machine.specs.States.{stateOf}
+use Rattle.machine.specs.Steps.{registersFit, refusalOf, Stepped, endedAs, executeOf, stepOf, answered}
+use Rattle.machine.specs.Runs.{Run, endsAt, runFrom, runOf, ranOf}
+use Rattle.laws.specs.Fit.{Fit}
 use Rattle.laws.proofs.FitChecks.{fit-refusal}
 use Rattle.laws.proofs.FitSteps.{step-fit, step-length}
 use Rattle.laws.proofs.FitRuns.{run-fit, run-length}
-use Rattle.tape.specs.Files.{wordsOf, bytesOf, writeOf, FileRead}
+use Rattle.tape.specs.Files.{wordsOf, bytesOf, writeFileOf, FileRead}
 use Rattle.tape.proofs.Backs.{length-fits}
 use Rattle.tape.proofs.Numbers.{write-fits}
 use Rattle.tape.proofs.Bytes.{write-yes}
 use Rattle.tape.proofs.Words.{words-length}
 use Rattle.cabinet.specs.declared.rows.Taken.the-variants.{Set, Refused}
-use Rattle.cabinet.specs.Rows.{rowOf, takenOf}
-use Rattle.cabinet.specs.Crossings.{Crossed, crossed, refuses, stepBackOf, stepTakenOf, stepBytesOf, Counted, counted, runBackOf, runTakenOf, runBytesOf, Room, leftOf, countOf}
+use Rattle.cabinet.specs.Rows.{rowOf, rowTakenOf}
+use Rattle.cabinet.specs.Crossings.{Crossed, crossed, refuses, stepBackOf, stepTakenOf, stepBytesOf, Counted, countedBytes, runBackOf, runTakenOf, runBytesOf}
 use Rattle.cabinet.proofs.Sets.{row-words, row-length, read-exact, taken-good}
 use Rattle.cabinet.proofs.Counts.{Whole}
+use Rattle.cabinet.specs.ForCode.Rooms.{Room, writtenBack, countBack}
 
 -- ---- a number that does not refuse
 
@@ -76,12 +77,12 @@ fit-parts core g e = by (lengthFits core) (wordsFit core) (registersFit g) e
     by true false c e = absurd (omega arith)
     by false b c e = absurd (omega arith)
 
-core-written : (words core : List ℕ) (g : Registers) → refusalOf words g ≡ 0 → length core ≡ 6 * length words → writeOf words core ≡ bytesOf words
+core-written : (words core : List ℕ) (g : Registers) → refusalOf words g ≡ 0 → length core ≡ 6 * length words → writeFileOf words core ≡ bytesOf words
 core-written words core g e l =
     let p : (lengthFits words ≡ true) × (wordsFit words ≡ true) = fit-parts words g e in
     sym (write-yes words core (sym (write-fits words (length core) (p .0) (p .1) l)) refl)
 
-row-written : (words regs : List ℕ) (g : Registers) → refusalOf words g ≡ 0 → length regs ≡ 66 → writeOf (rowOf g) regs ≡ bytesOf (rowOf g)
+row-written : (words regs : List ℕ) (g : Registers) → refusalOf words g ≡ 0 → length regs ≡ 66 → writeFileOf (rowOf g) regs ≡ bytesOf (rowOf g)
 row-written words regs g e l =
     let f : Fit (stateOf words g) = fit-refusal words g .0 e in
     let n : length (rowOf g) ≡ 11 = row-length g in
@@ -89,24 +90,24 @@ row-written words regs g e l =
 
 -- Either nothing, or the state of a number that does not refuse.
 pub left-back : (n : ℕ) (words core regs : List ℕ) (g : Registers) → (refuses n ≡ false → (refusalOf words g ≡ 0) × (length core ≡ 6 * length words)) → length regs ≡ 66
-    → leftOf n words g core regs ≡ stepBackOf (record { number = n; core = words; regs = g }) core regs
-unfolding leftOf stepBackOf if_then_else_
+    → writtenBack n words g core regs ≡ stepBackOf (record { number = n; core = words; regs = g }) core regs
+unfolding writtenBack stepBackOf if_then_else_
 left-back n words core regs g h r = by (refuses n) h
   where
     by : (b : Bool) → (b ≡ false → (refusalOf words g ≡ 0) × (length core ≡ 6 * length words))
-        → (if b then crossed n core regs else crossed n (writeOf words core) (writeOf (rowOf g) regs)) ≡ (if b then crossed n core regs else crossed n (bytesOf words) (bytesOf (rowOf g)))
+        → (if b then crossed n core regs else crossed n (writeFileOf words core) (writeFileOf (rowOf g) regs)) ≡ (if b then crossed n core regs else crossed n (bytesOf words) (bytesOf (rowOf g)))
     by true h = refl
     by false h = rw (core-written words core g (h refl .0) (h refl .1), row-written words regs g (h refl .0) r)
 
-pub hands-back : (n : ℕ) (words core regs : List ℕ) (g : Registers) {core′ regs′ row : List ℕ} → refuses n ≡ false → core′ ≡ writeOf words core → row ≡ rowOf g → regs′ ≡ writeOf row regs
-    → crossed n core′ regs′ ≡ leftOf n words g core regs
-unfolding leftOf if_then_else_
+pub hands-back : (n : ℕ) (words core regs : List ℕ) (g : Registers) {core′ regs′ row : List ℕ} → refuses n ≡ false → core′ ≡ writeFileOf words core → row ≡ rowOf g → regs′ ≡ writeFileOf row regs
+    → crossed n core′ regs′ ≡ writtenBack n words g core regs
+unfolding writtenBack if_then_else_
 hands-back n words core regs g f c r e = rw (f, c, e, r)
 
 -- ---- a step and a run, handed back
 
 step-back : (words words′ core core′ regs regs′ : List ℕ) (g : Registers) (a : Answer) → length core ≡ 6 * length words → length regs ≡ 66
-    → answered a words′ ≡ stepOf words g → crossed (a .number) core′ regs′ ≡ leftOf (a .number) words′ (a .regs) core regs
+    → answered a words′ ≡ stepOf words g → crossed (a .number) core′ regs′ ≡ writtenBack (a .number) words′ (a .regs) core regs
     → crossed (a .number) core′ regs′ ≡ stepBackOf (stepOf words g) core regs
 step-back words words′ core core′ regs regs′ g a l r e h =
     h ∙ left-back (a .number) words′ core regs (a .regs) fits r ∙ ap (λ (s : Stepped). stepBackOf s core regs) e
@@ -119,21 +120,21 @@ step-back words words′ core core′ regs regs′ g a l r e h =
 
 -- The count goes with the bytes.
 count-back : (r : Run) (core core′ regs regs′ : List ℕ) (old : ℕ) → crossed (r .stop) core′ regs′ ≡ stepBackOf (record { number = r .stop; core = r .core; regs = r .regs }) core regs
-    → counted (r .stop) core′ regs′ (countOf (r .stop) (r .completed) old) ≡ runBackOf r core regs old
-unfolding stepBackOf runBackOf countOf if_then_else_
+    → countedBytes (r .stop) core′ regs′ (countBack (r .stop) (r .completed) old) ≡ runBackOf r core regs old
+unfolding stepBackOf runBackOf countBack if_then_else_
 count-back r core core′ regs regs′ old e = by (refuses (r .stop)) e
   where
     by : (b : Bool) → crossed (r .stop) core′ regs′ ≡ (if b then crossed (r .stop) core regs else crossed (r .stop) (bytesOf (r .core)) (bytesOf (rowOf (r .regs))))
-        → counted (r .stop) core′ regs′ (if b then old else r .completed)
-        ≡ (if b then counted (r .stop) core regs old else counted (r .stop) (bytesOf (r .core)) (bytesOf (rowOf (r .regs))) (r .completed))
-    by true e = ap (λ (x : Crossed). counted (r .stop) (x .core) (x .regs) old) e
-    by false e = ap (λ (x : Crossed). counted (r .stop) (x .core) (x .regs) (r .completed)) e
+        → countedBytes (r .stop) core′ regs′ (if b then old else r .completed)
+        ≡ (if b then countedBytes (r .stop) core regs old else countedBytes (r .stop) (bytesOf (r .core)) (bytesOf (rowOf (r .regs))) (r .completed))
+    by true e = ap (λ (x : Crossed). countedBytes (r .stop) (x .core) (x .regs) old) e
+    by false e = ap (λ (x : Crossed). countedBytes (r .stop) (x .core) (x .regs) (r .completed)) e
 
 run-back : (words words′ core core′ regs regs′ : List ℕ) (g : Registers) (a : Ran) (budget old new : ℕ) → length core ≡ 6 * length words → length regs ≡ 66
-    → ranOf a words′ ≡ runOf words g budget → crossed (a .stop) core′ regs′ ≡ leftOf (a .stop) words′ (a .regs) core regs → new ≡ countOf (a .stop) (a .completed) old
-    → counted (a .stop) core′ regs′ new ≡ runBackOf (runOf words g budget) core regs old
+    → ranOf a words′ ≡ runOf words g budget → crossed (a .stop) core′ regs′ ≡ writtenBack (a .stop) words′ (a .regs) core regs → new ≡ countBack (a .stop) (a .completed) old
+    → countedBytes (a .stop) core′ regs′ new ≡ runBackOf (runOf words g budget) core regs old
 run-back words words′ core core′ regs regs′ g a budget old new l r e h c =
-    ap (λ (n : ℕ). counted (a .stop) core′ regs′ n) c
+    ap (λ (n : ℕ). countedBytes (a .stop) core′ regs′ n) c
     ∙ count-back (ranOf a words′) core core′ regs regs′ old (h ∙ left-back (a .stop) words′ core regs (a .regs) fits r)
     ∙ ap (λ (s : Run). runBackOf s core regs old) e
   where
@@ -154,14 +155,14 @@ module _ (old core regs : List ℕ) (room : Room old core regs) {words : List �
 
 module _ (old core regs : List ℕ) (g : Registers) (room : Room old core regs) {words : List ℕ} {n : ℕ} (read : FileRead core old words n) where
   pub step-crossed : (words′ : List ℕ) {core′ regs′ : List ℕ} (a : Answer) → answered a words′ ≡ stepOf words g
-      → crossed (a .number) core′ regs′ ≡ leftOf (a .number) words′ (a .regs) core regs
+      → crossed (a .number) core′ regs′ ≡ writtenBack (a .number) words′ (a .regs) core regs
       → crossed (a .number) core′ regs′ ≡ stepBackOf (stepOf (wordsOf (length old) core) g) core regs
   step-crossed words′ {core′} {regs′} a e h =
       step-back words words′ core core′ regs regs′ g a (read-length old core regs room read) (room .row) e h ∙ ap (λ (ws : List ℕ). stepBackOf (stepOf ws g) core regs) (read-words old core regs room read)
 
   pub run-crossed : (words′ : List ℕ) {core′ regs′ : List ℕ} (a : Ran) (budget before : ℕ) {after : ℕ} → ranOf a words′ ≡ runOf words g budget
-      → crossed (a .stop) core′ regs′ ≡ leftOf (a .stop) words′ (a .regs) core regs → after ≡ countOf (a .stop) (a .completed) before
-      → counted (a .stop) core′ regs′ after ≡ runBackOf (runOf (wordsOf (length old) core) g budget) core regs before
+      → crossed (a .stop) core′ regs′ ≡ writtenBack (a .stop) words′ (a .regs) core regs → after ≡ countBack (a .stop) (a .completed) before
+      → countedBytes (a .stop) core′ regs′ after ≡ runBackOf (runOf (wordsOf (length old) core) g budget) core regs before
   run-crossed words′ {core′} {regs′} a budget before {after} e h c =
       run-back words words′ core core′ regs regs′ g a budget before after (read-length old core regs room read) (room .row) e h c
       ∙ ap (λ (ws : List ℕ). runBackOf (runOf ws g budget) core regs before) (read-words old core regs room read)
@@ -185,7 +186,7 @@ module _ (all core : List ℕ) (full : length all ≡ 32768) (w : Whole (length 
       let most : length core ≤ 196608 = w .most in
       record { some = omega arith; most = omega arith; exact = omega arith; row = row }
 
-module _ (all core regs : List ℕ) (full : length all ≡ 32768) {g : Registers} (taken : takenOf (length core) regs ≡ Set g) where
+module _ (all core regs : List ℕ) (full : length all ≡ 32768) {g : Registers} (taken : rowTakenOf (length core) regs ≡ Set g) where
   pub words-most : length core / 6 ≤ length all
   words-most = whole-most all core full (taken-good (length core) regs taken .core)
 
@@ -203,11 +204,11 @@ module _ (all core regs : List ℕ) (full : length all ≡ 32768) {g : Registers
   unfolding runBytesOf runTakenOf
   run-came budget before e = e ∙ rw (part-length, taken)
 
-module _ (core regs : List ℕ) {n : ℕ} (refused : takenOf (length core) regs ≡ Refused n) where
+module _ (core regs : List ℕ) {n : ℕ} (refused : rowTakenOf (length core) regs ≡ Refused n) where
   pub step-refused : crossed n core regs ≡ stepBytesOf core regs
   unfolding stepBytesOf stepTakenOf
   step-refused = rw refused
 
-  pub run-refused : (budget before : ℕ) → counted n core regs before ≡ runBytesOf core regs budget before
+  pub run-refused : (budget before : ℕ) → countedBytes n core regs before ≡ runBytesOf core regs budget before
   unfolding runBytesOf runTakenOf
   run-refused budget before = rw refused

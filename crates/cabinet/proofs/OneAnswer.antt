@@ -4,12 +4,12 @@ use mathlib.Core.Path.{_≡_}
 use mathlib.Core.List.{List}
 use Rattle.word.proofs.Sole.{sole}
 use Rattle.inspector.specs.declared.verdict.Verdict.{Verdict}
-use Rattle.cabinet.specs.Crossings.{Loaded, Crossed, Counted, stepBytesOf, runBytesOf}
+use Rattle.cabinet.specs.Crossings.{LoadedBytes, Crossed, Counted, stepBytesOf, runBytesOf}
 use Rattle.cabinet.specs.Arrays.{Handed, handedBytesOf}
 use Rattle.cabinet.specs.Inspections.{inspectBytesOf}
 use Rattle.cabinet.specs.Posts.{PostBytes, PostsBytes}
 
-pub load-sole : (file old new new′ : List ℕ) (r r′ : ℕ) → Loaded file old new r → Loaded file old new′ r′ → (r ≡ r′) × (new ≡ new′)
+pub load-sole : (file old new new′ : List ℕ) (r r′ : ℕ) → LoadedBytes file old new r → LoadedBytes file old new′ r′ → (r ≡ r′) × (new ≡ new′)
 load-sole file old new new′ r r′ p q = (sole (p .number) (q .number), sole (p .core) (q .core))
 
 pub step-sole : (core regs : List ℕ) {x x′ : Crossed} → x ≡ stepBytesOf core regs → x′ ≡ stepBytesOf core regs → x ≡ x′

@@ -8,7 +8,7 @@ use borrow.Author.Tests.{eq-eqb, ne-eqb, eqb-true}
 use lib.Dec.{eqb}
 use lib.ListN.{length, take}
 use Rattle.word.specs.Core.{wordsFit}
-use Rattle.machine.specs.Outcomes.{if_then_else_}
+use Rattle.word.specs.Choices.{if_then_else_}
 use Rattle.machine.specs.Steps.{refusalOf}
 use Rattle.tape.specs.Files.{wordsOf, bytesOf, FileRead}
 use Rattle.tape.proofs.Words.{words-length}
@@ -19,11 +19,12 @@ use Rattle.post.specs.Posting.{Posting, postOf, postedOf, Guarantees, Posts}
 use Rattle.post.proofs.Postings.{guarantees, post-fit}
 use Rattle.cabinet.specs.Lengths.{coreNumberOf}
 use Rattle.cabinet.specs.Rows.{rowOf}
-use Rattle.cabinet.specs.Crossings.{Crossed, crossed, Room, stepBackOf, leftOf}
+use Rattle.cabinet.specs.Crossings.{Crossed, crossed, stepBackOf}
 use Rattle.cabinet.specs.Posts.{PostBytes, postBytes, postNumberOf, postBackOf, postBytesOf, PostGuards, PostsBytes}
 use Rattle.cabinet.proofs.Counts.{core-whole}
 use Rattle.cabinet.proofs.Sets.{Good}
 use Rattle.cabinet.proofs.Backs.{fit-parts, left-back, read-words, read-length, whole-length}
+use Rattle.cabinet.specs.ForCode.Rooms.{Room, writtenBack}
 
 -- ---- the lengths
 
@@ -39,7 +40,7 @@ number-good n regs e = by (eqb (coreNumberOf n) 0) (eqb (length regs) 66) refl r
 -- ---- a posting, handed back
 
 ran-back : (p : Posting) (core core′ regs regs′ : List ℕ) → p .number ≡ 0 → refusalOf (p .core) (p .regs) ≡ 0 → length core ≡ 6 * length (p .core) → length regs ≡ 66
-    → crossed 0 core′ regs′ ≡ leftOf 0 (p .core) (p .regs) core regs
+    → crossed 0 core′ regs′ ≡ writtenBack 0 (p .core) (p .regs) core regs
     → postBytes (p .number) core′ regs′ (p .place) (p .stop) (p .completed) ≡ postBackOf p core regs
 unfolding postBackOf stepBackOf if_then_else_
 ran-back p core core′ regs regs′ z f l r h =
@@ -52,7 +53,7 @@ module _ (old core regs : List ℕ) (room : Room old core regs) {words : List �
       h ∙ ap (λ (p : Posting). postBackOf p core regs) (e .same)
       ∙ ap (λ (ws : List ℕ). postBackOf (postOf ws sheet budget) core regs) (read-words old core regs room read)
 
-  pub post-ran : {core′ regs′ : List ℕ} → a .number ≡ 0 → crossed 0 core′ regs′ ≡ leftOf 0 words′ (a .regs) core regs
+  pub post-ran : {core′ regs′ : List ℕ} → a .number ≡ 0 → crossed 0 core′ regs′ ≡ writtenBack 0 words′ (a .regs) core regs
       → postBytes (a .number) core′ regs′ (a .place) (a .stop) (a .completed) ≡ postBackOf (postOf (wordsOf (length old) core) sheet budget) core regs
   post-ran {core′} {regs′} z h =
       let size : length words′ ≡ length words = e .guarded .posted z .size in

@@ -7,7 +7,7 @@ use lib.ListN.{length, take}
 use lib.Seq.{length-take-le}
 use Rattle.tape.specs.Files.{wordsOf, FileRead}
 use Rattle.cabinet.specs.Lengths.{coreNumberOf}
-use Rattle.cabinet.specs.Rooms.{Roomy}
+use Rattle.cabinet.specs.ForCode.Rooms.{Roomy}
 use Rattle.cabinet.proofs.Counts.{Whole, core-whole}
 use Rattle.cabinet.proofs.Sets.{read-exact}
 

@@ -13,12 +13,14 @@ use Rattle.word.specs.Core.{wordsFit}
 use Rattle.tape.specs.Files.{wordsOf, FileRead}
 use Rattle.tape.proofs.Numbers.{whole-read}
 use Rattle.tape.proofs.Words.{words-length, read-yes}
-use Rattle.laws.proofs.Fit.{Word, Holds, Ranged as RangedSet}
-use Rattle.machine.specs.Outcomes.{if_then_else_}
+use Rattle.laws.specs.Fit.{Word, Holds, InRange as RangedSet}
+use Rattle.word.specs.Choices.{if_then_else_}
 use Rattle.cabinet.specs.declared.rows.Taken.the-variants.{Set, Refused}
 use Rattle.cabinet.specs.Lengths.{coreNumberOf}
-use Rattle.cabinet.specs.Rows.{markOf, rowOf, setOf, rowFits, Ranged, takenOf}
+use Rattle.cabinet.specs.Rows.{rowOf, setOf, rowFits, rowTakenOf}
 use Rattle.cabinet.proofs.Counts.{Whole, core-whole}
+use Rattle.word.specs.Field.{oneOf}
+use Rattle.cabinet.specs.ForCode.Rooms.{RowRanged}
 
 -- ---- from a row
 
@@ -35,7 +37,7 @@ all-on a b s f c r l t u e =
     let with-f = both (a && b && s) f (with-c .0) in
     (both (a && b) s (with-f .0) .1, with-f .1, with-c .1, with-r .1, with-l .1)
 
-pub fits-ranged : (row : List ℕ) → length row ≡ 11 → rowFits row ≡ true → Ranged row
+pub fits-ranged : (row : List ℕ) → length row ≡ 11 → rowFits row ≡ true → RowRanged row
 unfolding rowFits
 fits-ranged row n e =
     let on =
@@ -52,7 +54,7 @@ pub row-read : (regs old : List ℕ) {row : List ℕ} {r : ℕ} → length old �
 row-read regs old n l f =
     read-exact regs old (omega arith) (omega arith) (omega arith) f ∙ ap (λ (k : ℕ). wordsOf k regs) n
 
-pub row-ranged : (regs row : List ℕ) → row ≡ wordsOf 11 regs → rowFits row ≡ true → Ranged row
+pub row-ranged : (regs row : List ℕ) → row ≡ wordsOf 11 regs → rowFits row ≡ true → RowRanged row
 row-ranged regs row e h = fits-ranged row (ap length e ∙ words-length 11 regs) h
 
 -- A set that was taken, beside a core of n bytes.
@@ -60,8 +62,8 @@ pub record Good (n : ℕ) (regs : List ℕ) : Type 0 where
   pub core : Whole n
   pub row : length regs ≡ 66
 
-pub taken-good : (n : ℕ) (regs : List ℕ) {g : Registers} → takenOf n regs ≡ Set g → Good n regs
-unfolding takenOf if_then_else_
+pub taken-good : (n : ℕ) (regs : List ℕ) {g : Registers} → rowTakenOf n regs ≡ Set g → Good n regs
+unfolding rowTakenOf if_then_else_
 taken-good n regs {g} e = by (eqb (coreNumberOf n) 0) (eqb (length regs) 66) (rowFits (wordsOf 11 regs)) refl refl e
   where
     clash : {A : Type 0} (m : ℕ) → Refused m ≡ Set g → A
@@ -76,11 +78,11 @@ taken-good n regs {g} e = by (eqb (coreNumberOf n) 0) (eqb (length regs) 66) (ro
 
 -- ---- to a row
 
-pub mark-of : (on : Bool) → boolByte on ≡ markOf on
+pub mark-of : (on : Bool) → boolByte on ≡ oneOf on
 mark-of true = refl
 mark-of false = refl
 
-pub row-made : (g : Registers) {p q t u : ℕ} → p ≡ markOf (g .afull) → q ≡ markOf (g .bfull) → t ≡ markOf (g .salf) → u ≡ markOf (g .msff)
+pub row-made : (g : Registers) {p q t u : ℕ} → p ≡ oneOf (g .afull) → q ≡ oneOf (g .bfull) → t ≡ oneOf (g .salf) → u ≡ oneOf (g .msff)
     → _≡_ {A = List ℕ} (g .a ∷ p ∷ g .b ∷ q ∷ g .s ∷ g .f ∷ g .c ∷ g .r ∷ g .l ∷ t ∷ u ∷ []) (rowOf g)
 unfolding rowOf
 row-made g p q t u = rw (p, q, t, u)
@@ -97,7 +99,7 @@ held : (full : Bool) (x : ℕ) → Holds full x → Word x
 held true x h = h
 held false x h = omega arith
 
-mark-word : (on : Bool) → Word (markOf on)
+mark-word : (on : Bool) → Word (oneOf on)
 mark-word true = omega arith
 mark-word false = omega arith
 

@@ -9,12 +9,12 @@ use lib.Dec.{eqb, ltb, leb}
 use lib.ListN.{length, take}
 use Rattle.word.specs.Core.{lengthFits, wordsFit}
 use Rattle.word.specs.Layout.{sizeOf, addressOf}
-use Rattle.machine.specs.Outcomes.{if_then_else_}
-use Rattle.handout.specs.HandOut.{choose, wordOf, numberOf, startOf, countOf}
+use Rattle.word.specs.Choices.{if_then_else_, choose}
+use Rattle.handout.specs.HandOut.{cellWord, handOutNumber, stretchStart, stretchCount}
 use Rattle.tape.specs.Files.{wordsOf, FileRead}
 use Rattle.cabinet.specs.Lengths.{coreNumberOf}
-use Rattle.cabinet.specs.Rooms.{Roomy}
-use Rattle.cabinet.specs.Arrays.{Handed, handed, handedOf, handedBytesOf, narrowOf}
+use Rattle.cabinet.specs.ForCode.Rooms.{Roomy, narrowOf}
+use Rattle.cabinet.specs.Arrays.{Handed, handed, handedOf, handedBytesOf}
 use Rattle.cabinet.proofs.Rooms.{core-part, core-read}
 
 -- ---- from 16 bits
@@ -22,10 +22,10 @@ use Rattle.cabinet.proofs.Rooms.{core-part, core-read}
 -- An R or a cell out of range gives no words, and the number does not look at it further.
 out-of-range : (words : List ℕ) (r cell : ℕ) → (ltb r 512 && ltb cell 1024) ≡ false
     → handedOf words r cell ≡ handed (choose (lengthFits words) (choose (wordsFit words) 3 2) 1) 0 0
-unfolding handedOf numberOf startOf countOf
+unfolding handedOf handOutNumber stretchStart stretchCount
 out-of-range words r cell e = rw e (by (lengthFits words) (wordsFit words))
   where
-    by : (a b : Bool) → handed (choose a (choose b 3 2) 1) (choose (eqb (choose a (choose b 3 2) 1) 0) (addressOf (wordOf words r cell)) 0) (choose (eqb (choose a (choose b 3 2) 1) 0) (sizeOf (wordOf words r cell)) 0)
+    by : (a b : Bool) → handed (choose a (choose b 3 2) 1) (choose (eqb (choose a (choose b 3 2) 1) 0) (addressOf (cellWord words r cell)) 0) (choose (eqb (choose a (choose b 3 2) 1) 0) (sizeOf (cellWord words r cell)) 0)
         ≡ handed (choose a (choose b 3 2) 1) 0 0
     by true true = refl
     by true false = refl
@@ -60,7 +60,7 @@ narrow-same words r cell = by _ _ refl refl
 
 -- ---- what each function answers
 
-pub told : (words : List ℕ) (r cell : ℕ) {n start count : ℕ} → n ≡ numberOf words r cell → start ≡ startOf words r cell → count ≡ countOf words r cell
+pub told : (words : List ℕ) (r cell : ℕ) {n start count : ℕ} → n ≡ handOutNumber words r cell → start ≡ stretchStart words r cell → count ≡ stretchCount words r cell
     → handed n start count ≡ handedOf words r cell
 unfolding handedOf
 told words r cell n s c = rw (n, s, c)

@@ -4,12 +4,12 @@ use mathlib.Core.Path.{_≡_, _∙_, ap}
 use mathlib.Core.List.{List}
 use borrow.Author.Tests.{eq-eqb, ne-eqb}
 use lib.ListN.{length, take}
-use Rattle.machine.specs.Outcomes.{if_then_else_}
+use Rattle.word.specs.Choices.{if_then_else_}
 use Rattle.inspector.specs.declared.verdict.Verdict.{Verdict}
 use Rattle.inspector.specs.Verdicts.{given, verdictOf}
 use Rattle.tape.specs.Files.{wordsOf, FileRead}
 use Rattle.cabinet.specs.Lengths.{coreNumberOf}
-use Rattle.cabinet.specs.Rooms.{Roomy}
+use Rattle.cabinet.specs.ForCode.Rooms.{Roomy}
 use Rattle.cabinet.specs.Inspections.{inspectBytesOf}
 use Rattle.cabinet.proofs.Rooms.{core-part, core-read}
 

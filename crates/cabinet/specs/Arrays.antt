@@ -3,8 +3,8 @@ use Prim.Native.Nat.{ℕ, _/_}
 use mathlib.Core.List.{List}
 use lib.Dec.{eqb, leb}
 use lib.ListN.{length}
-use Rattle.machine.specs.Outcomes.{if_then_else_}
-use Rattle.handout.specs.HandOut.{numberOf, startOf, countOf}
+use Rattle.word.specs.Choices.{if_then_else_}
+use Rattle.handout.specs.HandOut.{handOutNumber, stretchStart, stretchCount}
 use Rattle.tape.specs.Files.{wordsOf}
 use Rattle.cabinet.specs.Lengths.{coreNumberOf}
 
@@ -19,14 +19,10 @@ handed n start count = record { number = n; start = start; count = count }
 
 -- Of a core's words, the hand-out's own answers.
 unfoldable pub handedOf : List ℕ → ℕ → ℕ → Handed
-handedOf words r cell = handed (numberOf words r cell) (startOf words r cell) (countOf words r cell)
+handedOf words r cell = handed (handOutNumber words r cell) (stretchStart words r cell) (stretchCount words r cell)
 
 -- 4 and 1 of the bytes, "each with an empty stretch"; then the hand-out's answers.
 unfoldable pub handedBytesOf : List ℕ → ℕ → ℕ → Handed
 handedBytesOf core r cell =
     if eqb (coreNumberOf (length core)) 0 then handedOf (wordsOf (length core / 6) core) r cell
     else handed (coreNumberOf (length core)) 0 0
-
--- A number that 16 bits don't hold is out of every range, as the largest that they hold is.
-unfoldable pub narrowOf : ℕ → ℕ
-narrowOf n = if leb n 65535 then n else 65535

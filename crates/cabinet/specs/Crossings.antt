@@ -6,19 +6,19 @@ use mathlib.Core.List.{List}
 use lib.Dec.{eqb, ltb}
 use lib.ListN.{length}
 use Rattle.machine.specs.declared.outcome.Registers.{Registers}
-use Rattle.machine.specs.Outcomes.{if_then_else_}
+use Rattle.word.specs.Choices.{if_then_else_}
 use Rattle.machine.specs.Steps.{Stepped, stepOf}
 use Rattle.machine.specs.Runs.{Run, runOf}
-use Rattle.tape.specs.Files.{wordsOf, bytesOf, writeOf}
+use Rattle.tape.specs.Files.{wordsOf, bytesOf, writeFileOf}
 use Rattle.cabinet.specs.declared.rows.Taken.{Taken}
 use Rattle.cabinet.specs.declared.rows.Taken.the-variants.{Set, Refused}
 use Rattle.cabinet.specs.Lengths.{loadNumberOf}
-use Rattle.cabinet.specs.Rows.{rowOf, takenOf}
+use Rattle.cabinet.specs.Rows.{rowOf, rowTakenOf}
 
 -- ---- load
 
 -- What copying a file to a core (`old`, then `new`) leaves, and the number that it answers. "a refusal writes nothing"
-pub record Loaded (file old new : List ℕ) (r : ℕ) : Type 0 where
+pub record LoadedBytes (file old new : List ℕ) (r : ℕ) : Type 0 where
   pub number : r ≡ loadNumberOf (length file) (length old)
   pub core : new ≡ (if eqb (loadNumberOf (length file) (length old)) 0 then file else old)
 
@@ -47,7 +47,7 @@ stepTakenOf (Set g) core regs = stepBackOf (stepOf (wordsOf (length core / 6) co
 stepTakenOf (Refused n) core regs = crossed n core regs
 
 unfoldable pub stepBytesOf : List ℕ → List ℕ → Crossed
-stepBytesOf core regs = stepTakenOf (takenOf (length core) regs) core regs
+stepBytesOf core regs = stepTakenOf (rowTakenOf (length core) regs) core regs
 
 -- ---- run
 
@@ -58,34 +58,19 @@ pub record Counted : Type 0 where
   pub regs : List ℕ
   pub completed : ℕ
 
-abbrev pub counted : ℕ → List ℕ → List ℕ → ℕ → Counted
-counted n core regs completed = record { number = n; core = core; regs = regs; completed = completed }
+abbrev pub countedBytes : ℕ → List ℕ → List ℕ → ℕ → Counted
+countedBytes n core regs completed = record { number = n; core = core; regs = regs; completed = completed }
 
 unfoldable pub runBackOf : Run → List ℕ → List ℕ → ℕ → Counted
 runBackOf r core regs completed =
-    if refuses (r .stop) then counted (r .stop) core regs completed
-    else counted (r .stop) (bytesOf (r .core)) (bytesOf (rowOf (r .regs))) (r .completed)
+    if refuses (r .stop) then countedBytes (r .stop) core regs completed
+    else countedBytes (r .stop) (bytesOf (r .core)) (bytesOf (rowOf (r .regs))) (r .completed)
 
 unfoldable pub runTakenOf : Taken → List ℕ → List ℕ → ℕ → ℕ → Counted
 runTakenOf (Set g) core regs budget completed = runBackOf (runOf (wordsOf (length core / 6) core) g budget) core regs completed
-runTakenOf (Refused n) core regs budget completed = counted n core regs completed
+runTakenOf (Refused n) core regs budget completed = countedBytes n core regs completed
 
 unfoldable pub runBytesOf : List ℕ → List ℕ → ℕ → ℕ → Counted
-runBytesOf core regs budget completed = runTakenOf (takenOf (length core) regs) core regs budget completed
+runBytesOf core regs budget completed = runTakenOf (rowTakenOf (length core) regs) core regs budget completed
 
 -- ---- between words and bytes
-
--- Room for the words of a core of its bytes, and a set of 66 bytes.
-pub record Room (words core regs : List ℕ) : Type 0 where
-  pub some : 0 < length words
-  pub most : length words ≤ 32768
-  pub exact : length core ≡ 6 * length words
-  pub row : length regs ≡ 66
-
--- What is left by a number, words and a set: tape's writing, where the number does not refuse.
-unfoldable pub leftOf : ℕ → List ℕ → Registers → List ℕ → List ℕ → Crossed
-leftOf n words g core regs =
-    if refuses n then crossed n core regs else crossed n (writeOf words core) (writeOf (rowOf g) regs)
-
-unfoldable pub countOf : ℕ → ℕ → ℕ → ℕ
-countOf n completed old = if refuses n then old else completed

@@ -3,7 +3,7 @@ use Prim.Native.Nat.{ℕ, _/_}
 use mathlib.Core.List.{List}
 use lib.Dec.{eqb}
 use lib.ListN.{length}
-use Rattle.machine.specs.Outcomes.{if_then_else_}
+use Rattle.word.specs.Choices.{if_then_else_}
 use Rattle.inspector.specs.declared.verdict.Verdict.{Verdict}
 use Rattle.inspector.specs.Verdicts.{given, verdictOf}
 use Rattle.tape.specs.Files.{wordsOf}

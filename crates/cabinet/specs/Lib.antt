@@ -1,7 +1,7 @@
 pub mod Lengths
 pub mod Rows
 pub mod Crossings
-pub mod Rooms
+pub mod ForCode
 pub mod Arrays
 pub mod Inspections
 pub mod Posts

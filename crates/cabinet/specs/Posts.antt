@@ -5,7 +5,7 @@ use mathlib.Core.Logic.{_≢_}
 use mathlib.Core.List.{List}
 use lib.Dec.{eqb}
 use lib.ListN.{length}
-use Rattle.machine.specs.Outcomes.{if_then_else_}
+use Rattle.word.specs.Choices.{if_then_else_}
 use Rattle.tape.specs.Files.{wordsOf, bytesOf}
 use Rattle.demands.specs.Leaves.{Leaves}
 use Rattle.post.specs.Posting.{Posting, postOf}

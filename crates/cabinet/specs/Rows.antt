@@ -6,26 +6,22 @@ use mathlib.Core.List.{List, [], _∷_}
 use lib.Dec.{eqb, ltb}
 use lib.ListN.{length, getD}
 use Rattle.machine.specs.declared.outcome.Registers.{Registers}
-use Rattle.machine.specs.Outcomes.{if_then_else_}
+use Rattle.word.specs.Choices.{if_then_else_}
+use Rattle.word.specs.Field.{oneOf}
 use Rattle.tape.specs.Files.{wordsOf}
 use Rattle.cabinet.specs.declared.rows.Taken.{Taken}
 use Rattle.cabinet.specs.declared.rows.Taken.the-variants.{Set, Refused}
 use Rattle.cabinet.specs.Lengths.{coreNumberOf}
 
--- A mark, full or on, is 1; empty or off, 0.
-abbrev pub markOf : Bool → ℕ
-markOf true = 1
-markOf false = 0
-
 unfoldable pub rowOf : Registers → List ℕ
 rowOf g =
-    g .a ∷ markOf (g .afull) ∷ g .b ∷ markOf (g .bfull) ∷ g .s ∷ g .f ∷ g .c ∷ g .r ∷ g .l ∷ markOf (g .salf) ∷ markOf (g .msff) ∷ []
+    g .a ∷ oneOf (g .afull) ∷ g .b ∷ oneOf (g .bfull) ∷ g .s ∷ g .f ∷ g .c ∷ g .r ∷ g .l ∷ oneOf (g .salf) ∷ oneOf (g .msff) ∷ []
 
 unfoldable pub setOf : List ℕ → Registers
 setOf row =
     record { a = getD row 0 0; afull = eqb (getD row 1 0) 1; b = getD row 2 0; bfull = eqb (getD row 3 0) 1; s = getD row 4 0; f = getD row 5 0; c = getD row 6 0; r = getD row 7 0; l = getD row 8 0; salf = eqb (getD row 9 0) 1; msff = eqb (getD row 10 0) 1 }
 
--- "3: a register out of range"; a mark that is neither 0 nor 1 is one too. A and B are in range as six bytes.
+-- 3, "a register .. out of range"; a mark that is neither 0 nor 1 is one too. A and B are in range as six bytes.
 unfoldable pub rowFits : List ℕ → Bool
 rowFits row =
     ltb (getD row 1 0) 2 && ltb (getD row 3 0) 2 && ltb (getD row 4 0) 32768 && ltb (getD row 5 0) 32768
@@ -35,18 +31,9 @@ rowFits row =
     && ltb (getD row 9 0) 2
     && ltb (getD row 10 0) 2
 
--- The same, where the row's numbers become registers.
-pub record Ranged (row : List ℕ) : Type 0 where
-  pub eleven : length row ≡ 11
-  pub s : getD row 4 0 < 32768
-  pub f : getD row 5 0 < 32768
-  pub c : getD row 6 0 < 32768
-  pub r : getD row 7 0 < 512
-  pub l : getD row 8 0 < 4
-
 -- 4 and 1 of a core of n bytes, then 3; or the set.
-unfoldable pub takenOf : ℕ → List ℕ → Taken
-takenOf n regs =
+unfoldable pub rowTakenOf : ℕ → List ℕ → Taken
+rowTakenOf n regs =
     if eqb (coreNumberOf n) 0 then
     (if eqb (length regs) 66 then (if rowFits (wordsOf 11 regs) then Set (setOf (wordsOf 11 regs)) else Refused 3) else Refused 3)
     else Refused (coreNumberOf n)

@@ -2,8 +2,8 @@
 ghost use mathlib.Core.Path.{_≡_};
 ghost use lib.ListN.{length};
 ghost use Rattle.tape.specs.Files.{wordsOf};
-ghost use Rattle.cabinet.specs.Rooms.{Roomy};
-ghost use Rattle.cabinet.specs.Arrays.{handed, handedOf, narrowOf};
+ghost use Rattle.cabinet.specs.ForCode.Rooms.{Roomy, narrowOf};
+ghost use Rattle.cabinet.specs.Arrays.{handed, handedOf};
 
 // The hand-out takes 16 bits; a number past them is out of range and stays so.
 fn narrow(n: u64) -> u16

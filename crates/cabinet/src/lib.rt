@@ -18,7 +18,7 @@ use crate::turns::run_in;
 use crate::turns::step_in;
 ghost use mathlib.Core.Path.{_≡_};
 ghost use lib.ListN.{length};
-ghost use Rattle.cabinet.specs.Crossings.{Loaded, crossed, counted, stepBytesOf, runBytesOf};
+ghost use Rattle.cabinet.specs.Crossings.{LoadedBytes, crossed, countedBytes, stepBytesOf, runBytesOf};
 ghost use Rattle.cabinet.specs.Arrays.{handed, handedBytesOf};
 ghost use Rattle.inspector.specs.Verdicts.{given};
 ghost use Rattle.cabinet.specs.Inspections.{inspectBytesOf};
@@ -34,7 +34,7 @@ fn room() -> [u64; 32768]
 // Copies a core file to a core of its exact length, and answers 0; or 4 or 1, and leaves the core as it was.
 #[no_mangle]
 pub extern "C" fn fifty_five_load(file: &[u8], core: &mut [u8]) -> u64
-    ensures { λ r. ⌜ Loaded (now (file .entry)) (now (core .entry)) (now (core .exit)) r ⌝ }
+    ensures { λ r. ⌜ LoadedBytes (now (file .entry)) (now (core .entry)) (now (core .exit)) r ⌝ }
 {
     let n = load_number(file.len(), core.len());
     if n == 0 {
@@ -66,7 +66,7 @@ pub extern "C" fn fifty_five_run(
     budget: u64,
     completed: &mut u64,
 ) -> u64
-    ensures { λ r. ⌜ counted r (now (core .exit)) (now (regs .exit)) (now (completed .exit)) ≡ runBytesOf (now (core .entry)) (now (regs .entry)) budget (now (completed .entry)) ⌝ }
+    ensures { λ r. ⌜ countedBytes r (now (core .exit)) (now (regs .exit)) (now (completed .exit)) ≡ runBytesOf (now (core .entry)) (now (regs .entry)) budget (now (completed .entry)) ⌝ }
 {
     let n = core.len();
     match take(n, &regs[..]) {

@@ -5,7 +5,7 @@ ghost use mathlib.Core.Path.{_≡_};
 ghost use lib.ListN.{length};
 ghost use Rattle.tape.specs.Files.{wordsOf};
 ghost use Rattle.post.specs.Posting.{postOf};
-ghost use Rattle.cabinet.specs.Crossings.{Room};
+ghost use Rattle.cabinet.specs.ForCode.Rooms.{Room};
 ghost use Rattle.cabinet.specs.Posts.{postBytes, postNumberOf, postBackOf};
 
 // 4, 1, 3 or 0 of the bytes of a core and of a register set.

@@ -3,7 +3,9 @@ use crate::lengths::core_number;
 use machine::Registers;
 ghost use mathlib.Core.Path.{_≡_};
 ghost use lib.ListN.{length};
-ghost use Rattle.cabinet.specs.Rows.{markOf, rowFits, setOf, rowOf, Ranged, takenOf};
+ghost use Rattle.cabinet.specs.Rows.{rowFits, setOf, rowOf, rowTakenOf};
+ghost use Rattle.word.specs.Field.{oneOf};
+ghost use Rattle.cabinet.specs.ForCode.Rooms.{RowRanged};
 
 // The registers of a set that was taken, or why it was not.
 pub enum Taken {
@@ -28,7 +30,7 @@ fn row_fits(row: &[u64]) -> bool
 }
 
 fn set_of(row: &[u64]) -> Registers
-    requires { ⌜ Ranged (now row) ⌝ }
+    requires { ⌜ RowRanged (now row) ⌝ }
     ensures { λ r. ⌜ r ≡ setOf (now (row .entry)) ⌝ }
 {
     Registers {
@@ -48,7 +50,7 @@ fn set_of(row: &[u64]) -> Registers
 
 // The set of 66 bytes, beside a core of `n` bytes: 4, 1 and 3 are refused, in this order.
 pub fn take(n: usize, regs: &[u8]) -> Taken
-    ensures { λ r. ⌜ r ≡ takenOf n (now (regs .entry)) ⌝ }
+    ensures { λ r. ⌜ r ≡ rowTakenOf n (now (regs .entry)) ⌝ }
 {
     let number = core_number(n);
     if number == 0 {
@@ -65,7 +67,7 @@ pub fn take(n: usize, regs: &[u8]) -> Taken
 }
 
 fn mark(on: bool) -> u64
-    ensures { λ r. ⌜ r ≡ markOf on ⌝ }
+    ensures { λ r. ⌜ r ≡ oneOf on ⌝ }
 {
     on as u64
 }

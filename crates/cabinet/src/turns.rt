@@ -6,7 +6,8 @@ ghost use lib.ListN.{length};
 ghost use Rattle.tape.specs.Files.{wordsOf};
 ghost use Rattle.machine.specs.Steps.{stepOf};
 ghost use Rattle.machine.specs.Runs.{runOf};
-ghost use Rattle.cabinet.specs.Crossings.{refuses, Room, crossed, counted, countOf, leftOf, stepBackOf, runBackOf};
+ghost use Rattle.cabinet.specs.Crossings.{refuses, crossed, countedBytes, stepBackOf, runBackOf};
+ghost use Rattle.cabinet.specs.ForCode.Rooms.{Room, countBack, writtenBack};
 
 // The numbers 1 to 5: nothing has been done.
 fn refused(number: u64) -> bool
@@ -17,7 +18,7 @@ fn refused(number: u64) -> bool
 
 // Writes the core and the set over their bytes, or nothing where the number refuses.
 pub fn hand_back(words: &[u64], number: u64, g: Registers, core: &mut [u8], regs: &mut [u8])
-    ensures { λ _. ⌜ crossed number (now (core .exit)) (now (regs .exit)) ≡ leftOf number (now (words .entry)) g (now (core .entry)) (now (regs .entry)) ⌝ }
+    ensures { λ _. ⌜ crossed number (now (core .exit)) (now (regs .exit)) ≡ writtenBack number (now (words .entry)) g (now (core .entry)) (now (regs .entry)) ⌝ }
 {
     if refused(number) {
         return;
@@ -38,7 +39,7 @@ pub fn step_in(words: &mut [u64], core: &mut [u8], regs: &mut [u8], g: Registers
 }
 
 fn count(completed: &mut u64, number: u64, n: u64)
-    ensures { λ _. ⌜ now (completed .exit) ≡ countOf number n (now (completed .entry)) ⌝ }
+    ensures { λ _. ⌜ now (completed .exit) ≡ countBack number n (now (completed .entry)) ⌝ }
 {
     if refused(number) {
         return;
@@ -55,7 +56,7 @@ pub fn run_in(
     completed: &mut u64,
 ) -> u64
     requires { ⌜ Room (now words) (now core) (now regs) ⌝ }
-    ensures { λ r. ⌜ counted r (now (core .exit)) (now (regs .exit)) (now (completed .exit)) ≡ runBackOf (runOf (wordsOf (length (now (words .entry))) (now (core .entry))) g budget) (now (core .entry)) (now (regs .entry)) (now (completed .entry)) ⌝ }
+    ensures { λ r. ⌜ countedBytes r (now (core .exit)) (now (regs .exit)) (now (completed .exit)) ≡ runBackOf (runOf (wordsOf (length (now (words .entry))) (now (core .entry))) g budget) (now (core .entry)) (now (regs .entry)) (now (completed .entry)) ⌝ }
 {
     tape::read_file(&core[..], words);
     let a = machine::run(words, g, budget);

@@ -10,7 +10,7 @@ use lib.Seq.{getD-set-same}
 use Rattle.machine.specs.States.{State, emptyA, emptyB, fillB, withS, store}
 use Rattle.machine.specs.Memory.{readOf}
 use Rattle.machine.specs.Stack.{slotOf, pushOf, topOf, pushBOf, aEmptyOf, aFullOf, bFullOf, bothFullOf}
-use Rattle.inspector.specs.Sheets.{sOf, roomOf}
+use Rattle.sheet.specs.Sheets.{sOf, roomOf}
 use Rattle.inspector.specs.Scan.{Item, Shape}
 use Rattle.demands.specs.Stays.{StackWord}
 use Rattle.demands.proofs.Safe.{Safe, goes, safe-if, safe-bind, safe-map}

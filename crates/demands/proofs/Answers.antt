@@ -9,9 +9,9 @@ use lib.Dec.{eqb}
 use lib.ListN.{length, getD}
 use Rattle.word.specs.Layout.{flagOf}
 use Rattle.word.specs.Core.{lengthFits, wordsFit}
-use Rattle.inspector.specs.Sheets.{entryAt, entries, codeOf, codeWordsOf, sOf, roomOf, rOf, tableOf, sheetFits, recordGood, floorOf}
+use Rattle.sheet.specs.Sheets.{entryAt, entries, codeOf, codeWordsOf, sOf, roomOf, rOf, tableOf, cellIn, cellOf}
 use Rattle.inspector.specs.Areas.{meets, astray}
-use Rattle.inspector.specs.Cells.{cellIn, cellOf, arrayFits, unfit}
+use Rattle.inspector.specs.Cells.{arrayFits, unfit}
 use Rattle.inspector.specs.Scan.{shapeAt, broken, syllableAt, closes, breaksAt}
 use Rattle.inspector.specs.Targets.{missesTarget}
 use Rattle.inspector.specs.Verdicts.{given, verdictOf}
@@ -21,6 +21,7 @@ use Rattle.demands.proofs.Exact.{zero-kept}
 use Rattle.demands.proofs.Records.{apart, Range, range, cells-in, cell-in}
 use Rattle.demands.proofs.Arrays.{ArrayFit, array-fit}
 use Rattle.demands.proofs.Passed.{Passed}
+use Rattle.inspector.specs.Records.{sheetFits, recordGood, floorOf}
 
 words-fit : (core : List ℕ) → wordsFit core ≡ true → (i : ℕ) → getD core i 0 < 2 ^ 48
 unfolding wordsFit

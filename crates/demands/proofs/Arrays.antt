@@ -8,7 +8,7 @@ use native.Mathlib.Decide.{ℕ-discrete}
 use lib.ListN.{length, getD}
 use Rattle.word.specs.Field.{bit}
 use Rattle.word.specs.Layout.{flagOf, presenceOf, sizeOf, addressOf}
-use Rattle.inspector.specs.Sheets.{codeOf, codeWordsOf, sOf, roomOf, rOf, tableOf}
+use Rattle.sheet.specs.Sheets.{codeOf, codeWordsOf, sOf, roomOf, rOf, tableOf}
 use Rattle.inspector.specs.Areas.{meets}
 use Rattle.inspector.specs.Cells.{plainWords, arrayFits}
 use Rattle.demands.proofs.Tests.{shows-and, shows-lt, shows-le, shows, shows-not}

@@ -7,7 +7,7 @@ use mathlib.Core.List.{List, [], _∷_}
 use native.Mathlib.Omega.{arith}
 use borrow.Author.Tests.{not-false}
 use Rattle.machine.specs.Outcomes.{Res, on, halt}
-use Rattle.machine.specs.States.{State, emptyA, emptyB, withPlace}
+use Rattle.machine.specs.States.{State, emptyA, emptyB, withCL}
 use Rattle.machine.specs.Branches.{landingOf, jumpOf, alwaysOf, ifOffOf}
 use Rattle.word.specs.Field.{field, bit}
 use Rattle.word.specs.Layout.{flagOf}
@@ -40,7 +40,7 @@ module _ (core sheet : List ℕ) (ok : Passed core sheet) (p : ℕ) where
   landing-safe (on t) e = goes (not-false _ e)
   landing-safe (halt n) e = absurd (true≢false e)
 
-  placed : (t : ℕ) (st : State) → At core sheet p [] st → At core sheet t [] (withPlace st (t / 4) (t % 4))
+  placed : (t : ℕ) (st : State) → At core sheet p [] st → At core sheet t [] (withCL st (t / 4) (t % 4))
   placed t st v =
       record {
         kept = v .kept;

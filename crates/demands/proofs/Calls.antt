@@ -9,7 +9,7 @@ use borrow.Author.Tests.{ltb-true, ltb-false, eqb-true}
 use lib.Dec.{eqb, ltb}
 use lib.IntN.{ℤ, pos, negsuc}
 use lib.ListN.{length, getD}
-use Rattle.machine.specs.Outcomes.{on, if_then_else_}
+use Rattle.machine.specs.Outcomes.{on}
 use Rattle.machine.specs.States.{State, fillA, wordAt}
 use Rattle.machine.specs.Memory.{readOf}
 use Rattle.machine.specs.Calls.{withinOf, indexOf, indexedOf, loadOf, dataCallOf, leftOf, callAs, callOf, fetchedOf, callKOf}
@@ -20,8 +20,7 @@ use Rattle.word.specs.Kinds.{kindOf, kindBy}
 use Rattle.word.specs.declared.kinds.Kind.{Kind}
 use Rattle.word.specs.declared.kinds.Kind.the-variants.{Operand, Data}
 use Rattle.word.proofs.Makings.{data-back}
-use Rattle.inspector.specs.Sheets.{roomOf, rOf}
-use Rattle.inspector.specs.Cells.{cellOf}
+use Rattle.sheet.specs.Sheets.{roomOf, rOf, cellOf}
 use Rattle.inspector.specs.Scan.{Item, number, place, Shape, leaves, when, value, calledOver}
 use Rattle.demands.specs.Stays.{ArrayWord, Open}
 use Rattle.demands.proofs.Tests.{shows-and, shows, shows-eq}
@@ -35,6 +34,7 @@ use Rattle.demands.proofs.Adjusts.{a-empty, b-full}
 use Rattle.demands.proofs.Words.{taken-safe, indexed-flag, indexed-second, indexed-presence, indexed-size, indexed-address}
 use Rattle.demands.proofs.Operators.{Does, does-when, at-a}
 use Rattle.demands.proofs.Stores.{address-safe, cell-open}
+use Rattle.word.specs.Choices.{if_then_else_}
 
 -- "OPDC and LOD give a number, DESC a place"
 abbrev pub called : Bool → Item

@@ -6,10 +6,10 @@ use native.Mathlib.Omega.{arith}
 use borrow.Author.Tests.{eq-eqb}
 use Rattle.machine.specs.declared.outcome.Cause.{Cause}
 use Rattle.machine.specs.declared.outcome.Cause.the-variants.{Address, Overflow, Presence, Flag, Index, Unbuilt, Unwhole, ZeroDivisor}
-use Rattle.machine.specs.Outcomes.{if_then_else_, numberOf}
+use Rattle.machine.specs.Outcomes.{numberOf}
 use Rattle.machine.specs.States.{State}
 use Rattle.machine.specs.Steps.{Ended, next, communicated, stopped, executeOf, refusalOf, endedAs, stepOf}
-use Rattle.laws.proofs.Fit.{Fit, Keeps, After}
+use Rattle.laws.specs.Fit.{Fit, Keeps, After}
 use Rattle.laws.proofs.FitExecute.{execute-fit}
 use Rattle.laws.proofs.FitChecks.{fit-refusal}
 use Rattle.inspector.specs.Verdicts.{verdictOf, given}
@@ -21,6 +21,7 @@ use Rattle.demands.proofs.Answers.{passed}
 use Rattle.demands.proofs.Holds.{Kept}
 use Rattle.demands.proofs.Ends.{Inv, Good}
 use Rattle.demands.proofs.Segments.{start, reached, execute-good}
+use Rattle.word.specs.Choices.{if_then_else_}
 
 -- The start passes the checks 1, 2 and 3, and so does every state reached.
 start-fit : (core sheet : List ℕ) → Passed core sheet → Fit (startOf core sheet)

@@ -9,8 +9,7 @@ use native.Mathlib.Decide.{ℕ-discrete}
 use lib.ListN.{length, getD, set, length-set}
 use lib.Seq.{getD-set-same, getD-set-other}
 use Rattle.word.specs.Layout.{flagOf}
-use Rattle.inspector.specs.Sheets.{codeOf, codeWordsOf, rOf, tableOf}
-use Rattle.inspector.specs.Cells.{cellOf}
+use Rattle.sheet.specs.Sheets.{codeOf, codeWordsOf, rOf, tableOf, cellOf}
 use Rattle.demands.specs.Stays.{StackWord, NumberCell, Open, Named, SameOutside}
 use Rattle.demands.proofs.Passed.{Passed}
 use Rattle.demands.proofs.Holds.{Kept}

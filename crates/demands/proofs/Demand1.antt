@@ -1,16 +1,16 @@
 -- Demand 1 holds.
 use borrow.Author.Tests.{eq-eqb, ne-eqb, lt-leb}
 use lib.ListN.{length}
-use Rattle.machine.specs.Outcomes.{if_then_else_}
+use Rattle.word.specs.Choices.{if_then_else_}
 use Rattle.machine.specs.Steps.{refusalOf, stepOf}
 use Rattle.machine.specs.Runs.{runOf}
 use Rattle.laws.proofs.FitSteps.{step-kept, step-fit, step-length}
-use Rattle.tape.specs.Files.{readNumberOf, readOf, writeNumberOf, writeOf}
+use Rattle.tape.specs.Files.{readNumberOf, readFileOf, writeNumberOf, writeFileOf}
 use Rattle.inspector.specs.Verdicts.{verdictOf}
 use Rattle.demands.specs.Demand1.{Demand1}
 
 pub demand1 : Demand1
-unfolding stepOf runOf readOf writeOf verdictOf if_then_else_
+unfolding stepOf runOf readFileOf writeFileOf verdictOf if_then_else_
 demand1 =
     record {
       step-refused = λ core g h. rw (ne-eqb (refusalOf core g) 0 h);

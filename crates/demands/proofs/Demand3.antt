@@ -12,16 +12,16 @@ use Rattle.machine.specs.States.{State}
 use Rattle.machine.specs.Steps.{Ended, next, communicated, stopped, executeOf, refusalOf}
 use Rattle.machine.specs.Runs.{Run}
 use Rattle.syllable.specs.Decoding.{decodeOf}
-use Rattle.syllable.specs.Places.{syllableOf}
+use Rattle.syllable.specs.Positions.{syllableOf}
 use Rattle.laws.proofs.Running.{passed-run}
-use Rattle.inspector.specs.Sheets.{sOf, sheetFits, recordGood}
+use Rattle.sheet.specs.Sheets.{sOf, cellOf}
 use Rattle.inspector.specs.Areas.{astray}
-use Rattle.inspector.specs.Cells.{cellOf, plainWords, arrayFits, unfit}
+use Rattle.inspector.specs.Cells.{plainWords, arrayFits, unfit}
 use Rattle.inspector.specs.Scan.{Item, Shape, shapeAt, breaksAt}
 use Rattle.inspector.specs.Targets.{missesTarget}
 use Rattle.inspector.specs.Verdicts.{given, verdictOf}
 use Rattle.machine.specs.Branches.{landingOf}
-use Rattle.machine.specs.Outcomes.{if_then_else_}
+use Rattle.word.specs.Choices.{if_then_else_}
 use Rattle.demands.specs.Stays.{startOf, Stacked, Next, Stays}
 use Rattle.demands.specs.Leaves.{Leaves}
 use Rattle.demands.specs.Sample.{sampleCore, sampleSheet}
@@ -36,6 +36,7 @@ use Rattle.demands.proofs.Words.{small-off}
 use Rattle.demands.proofs.Ends.{Inv, Good}
 use Rattle.demands.proofs.Segments.{from-code, below-code, execute-good, reached}
 use Rattle.demands.proofs.Checked.{reached-passes, start-passes, run-leaves}
+use Rattle.inspector.specs.Records.{sheetFits, recordGood}
 
 module _ (core sheet : List ℕ) where
   -- ---- the stack

@@ -12,8 +12,8 @@ use Rattle.machine.specs.Outcomes.{Res}
 use Rattle.machine.specs.States.{State}
 use Rattle.machine.specs.Steps.{Ended, next, communicated, stopped, plain, last}
 use Rattle.syllable.specs.declared.Syllable.{Syllable}
-use Rattle.syllable.specs.Places.{nextOf}
-use Rattle.inspector.specs.Sheets.{codeOf, codeWordsOf, roomOf}
+use Rattle.syllable.specs.Positions.{nextOf}
+use Rattle.sheet.specs.Sheets.{codeOf, codeWordsOf, roomOf}
 use Rattle.inspector.specs.Scan.{Shape, Left, leaves, breaks, when, within, then, broken, syllableAt, syllableLeft, shapeAt, closes}
 use Rattle.inspector.specs.Targets.{isEmpty, lands}
 use Rattle.demands.specs.Stays.{Allowed}

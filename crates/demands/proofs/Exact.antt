@@ -8,7 +8,7 @@ use native.Mathlib.Omega.{arith}
 use borrow.Author.Tests.{eqb-true, eqb-false}
 use lib.Dec.{eqb}
 use Rattle.inspector.specs.declared.verdict.Verdict.{Verdict}
-use Rattle.inspector.specs.Sheets.{sheetFits}
+use Rattle.inspector.specs.Records.{sheetFits}
 use Rattle.inspector.specs.Verdicts.{Found, at, nowhere, lowest, given, blamed, refused, verdictOf}
 use Rattle.word.specs.Core.{lengthFits, wordsFit}
 use Rattle.demands.specs.Rules.{Rule, rules, Kept, BrokenAt, AllKept, none, kept, Blames, this, later}

@@ -6,7 +6,7 @@ use mathlib.Core.List.{List, [], _∷_}
 use lib.ListN.{length, getD}
 use Rattle.word.specs.Layout.{flagOf}
 use Rattle.machine.specs.States.{State}
-use Rattle.inspector.specs.Sheets.{sOf, roomOf, rOf}
+use Rattle.sheet.specs.Sheets.{sOf, roomOf, rOf}
 use Rattle.inspector.specs.Scan.{Item, literal, number, place, Shape}
 use Rattle.demands.specs.Stays.{Place, SameOutside, Plain}
 

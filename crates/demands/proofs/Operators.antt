@@ -12,7 +12,7 @@ use Rattle.machine.specs.Arithmetics.{twoOf}
 use Rattle.machine.specs.Bits.{twoWordsOf, oneWordOf, topFlagOf, xchOf, dupOf, delOf}
 use Rattle.machine.specs.Stores.{litcOf}
 use Rattle.word.specs.Layout.{flagOf}
-use Rattle.inspector.specs.Sheets.{roomOf}
+use Rattle.sheet.specs.Sheets.{roomOf}
 use Rattle.inspector.specs.Scan.{Item, literal, number, Shape, Left, leaves, breaks, when, value, twoValues, oneValue, tested, exchanged, doubled, deleted}
 use Rattle.demands.proofs.Tests.{shows-and, shows}
 use Rattle.demands.proofs.Safe.{Safe, goes, safe-bind}

@@ -5,8 +5,7 @@ use mathlib.Core.Bool.{true, false}
 use mathlib.Core.List.{List}
 use lib.ListN.{length, getD}
 use Rattle.word.specs.Layout.{flagOf}
-use Rattle.inspector.specs.Sheets.{codeOf, codeWordsOf, sOf, roomOf, rOf, tableOf}
-use Rattle.inspector.specs.Cells.{cellOf}
+use Rattle.sheet.specs.Sheets.{codeOf, codeWordsOf, sOf, roomOf, rOf, tableOf, cellOf}
 use Rattle.inspector.specs.Scan.{shapeAt, broken, syllableAt, closes}
 use Rattle.inspector.specs.Targets.{missesTarget}
 use Rattle.demands.proofs.Records.{Apart}

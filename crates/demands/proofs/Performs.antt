@@ -20,9 +20,8 @@ use Rattle.syllable.specs.declared.Operator.the-variants.{Arithmetic, Relation,
 use Rattle.syllable.specs.declared.Syllable.{Syllable}
 use Rattle.syllable.specs.declared.Syllable.the-variants.{Litc, Opdc, Desc, Operator as Operates}
 use Rattle.syllable.specs.Encoding.{Proper, litc}
-use Rattle.syllable.specs.Places.{nextOf}
-use Rattle.inspector.specs.Sheets.{codeOf, codeWordsOf, roomOf}
-use Rattle.inspector.specs.Cells.{cellOf}
+use Rattle.syllable.specs.Positions.{nextOf}
+use Rattle.sheet.specs.Sheets.{codeOf, codeWordsOf, roomOf, cellOf}
 use Rattle.inspector.specs.Scan.{literal, number, place, Shape, Left, leaves, when, value, branched, branchedIf, communicated, logicLeft, within, broken, syllableAt, syllableLeft, shapeAt, closes}
 use Rattle.inspector.specs.Targets.{distance, missesAt, misses, branchMisses, syllableMisses, missesTarget}
 use Rattle.demands.proofs.Safe.{Safe, goes}

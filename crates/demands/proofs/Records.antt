@@ -6,9 +6,9 @@ use mathlib.Core.List.{List}
 use native.Mathlib.Omega.{arith}
 use borrow.Author.Tests.{lt-ltb}
 use lib.Dec.{eqb, ltb, leb}
-use Rattle.inspector.specs.Sheets.{Entry, entryAt, ranged, cellsGood}
+use Rattle.sheet.specs.Sheets.{Entry, entryAt, cellIn}
 use Rattle.inspector.specs.Areas.{meets}
-use Rattle.inspector.specs.Cells.{cellIn}
+use Rattle.inspector.specs.Records.{ranged, cellsGood}
 use Rattle.demands.proofs.Tests.{shows-and, shows-lt, shows-le, shows-eq, shows}
 
 -- Two stretches have no word in common.

@@ -2,8 +2,9 @@
 use mathlib.Core.Path.{_≡_, refl}
 use mathlib.Core.Bool.{Bool, true, false}
 use Rattle.machine.specs.declared.outcome.Cause.{Cause}
-use Rattle.machine.specs.Outcomes.{Res, on, halt, _>>=_, if_then_else_}
+use Rattle.machine.specs.Outcomes.{Res, on, halt, _>>=_}
 use Rattle.demands.specs.Stays.{Allowed}
+use Rattle.word.specs.Choices.{if_then_else_}
 
 pub data Safe {A : Type 0} (P : A → Type 0) : Res A → Type 0 where
   goes : {a : A} → P a → Safe P (on a)

@@ -10,14 +10,14 @@ use borrow.Author.Tests.{lt-ltb}
 use lib.Pow.{pow-pos}
 use lib.ListN.{length, getD}
 use Rattle.word.specs.Layout.{flagOf}
-use Rattle.machine.specs.Outcomes.{Res, on, if_then_else_}
+use Rattle.machine.specs.Outcomes.{Res, on}
 use Rattle.machine.specs.States.{State}
 use Rattle.machine.specs.Memory.{readOf}
 use Rattle.machine.specs.Steps.{Ended, advancedOf, fetchedBy, executeOf}
 use Rattle.syllable.specs.Decoding.{decodeOf}
-use Rattle.syllable.specs.Places.{syllableOf, nextOf}
+use Rattle.syllable.specs.Positions.{syllableOf, nextOf}
 use Rattle.syllable.proofs.RoundTrip.{decode-proper}
-use Rattle.inspector.specs.Sheets.{codeOf, codeWordsOf}
+use Rattle.sheet.specs.Sheets.{codeOf, codeWordsOf}
 use Rattle.inspector.specs.Scan.{Shape, shapeAt, syllableAt}
 use Rattle.demands.specs.Stays.{Open, startOf, Reaches}
 use Rattle.demands.proofs.Passed.{Passed}
@@ -26,6 +26,7 @@ use Rattle.demands.proofs.Cores.{code-unnamed}
 use Rattle.demands.proofs.Stacks.{rest-empty}
 use Rattle.demands.proofs.Ends.{Inv, Good}
 use Rattle.demands.proofs.Performs.{perform-good}
+use Rattle.word.specs.Choices.{if_then_else_}
 
 -- A syllable has 12 bits.
 twelve-bits : (w l : ℕ) → syllableOf w l < 4096

@@ -6,7 +6,7 @@ use mathlib.Core.List.{List, [], _∷_}
 use native.Mathlib.Omega.{arith}
 use lib.ListN.{length, set}
 use lib.Seq.{getD-set-other}
-use Rattle.inspector.specs.Sheets.{sOf}
+use Rattle.sheet.specs.Sheets.{sOf}
 use Rattle.inspector.specs.Scan.{Item, Shape}
 use Rattle.demands.proofs.Holds.{Fits, Under, Register, full, empty, Rest}
 

@@ -13,8 +13,7 @@ use Rattle.machine.specs.Memory.{inCore, storeOf, kAddressOf}
 use Rattle.machine.specs.Stores.{placeOf, lodOf, sndOf, stdOf, comOf}
 use Rattle.word.specs.Field.{field}
 use Rattle.word.specs.Layout.{flagOf, presenceOf, addressOf}
-use Rattle.inspector.specs.Sheets.{roomOf, rOf}
-use Rattle.inspector.specs.Cells.{cellOf}
+use Rattle.sheet.specs.Sheets.{roomOf, rOf, cellOf}
 use Rattle.inspector.specs.Scan.{Item, number, Shape, value, writable, loaded, stored}
 use Rattle.demands.proofs.Tests.{shows-and, shows, shows-eq}
 use Rattle.demands.proofs.Safe.{Safe, goes, safe-if, safe-bind, safe-map}

@@ -10,11 +10,11 @@ use mathlib.Core.List.{List}
 use lib.ListN.{length}
 use Rattle.word.specs.Core.{lengthFits, wordsFit}
 use Rattle.machine.specs.declared.outcome.Registers.{Registers}
-use Rattle.machine.specs.Shapes.{stateOf}
+use Rattle.machine.specs.States.{stateOf}
 use Rattle.machine.specs.Steps.{refusalOf, Stepped, stepOf}
 use Rattle.machine.specs.Runs.{endsAt, runOf}
-use Rattle.tape.specs.Files.{readNumberOf, readOf, writeNumberOf, writeOf}
-use Rattle.inspector.specs.Sheets.{sheetFits}
+use Rattle.tape.specs.Files.{readNumberOf, readFileOf, writeNumberOf, writeFileOf}
+use Rattle.inspector.specs.Records.{sheetFits}
 use Rattle.inspector.specs.Verdicts.{given, verdictOf}
 
 pub record Demand1 : Type 0 where
@@ -29,8 +29,8 @@ pub record Demand1 : Type 0 where
   pub run-refused : (core : List ℕ) (g : Registers) (budget : ℕ) → refusalOf core g ≢ 0 → runOf core g budget ≡ endsAt (refusalOf core g) 0 (stateOf core g)
   pub run-over : (core : List ℕ) (g : Registers) (budget : ℕ) → refusalOf core g ≡ 0 → 1000000 < budget → runOf core g budget ≡ endsAt 5 0 (stateOf core g)
   -- a core file that is refused writes nothing, and so does a room that is
-  pub read-kept : (bytes core : List ℕ) → readNumberOf bytes (length core) ≢ 0 → readOf bytes core ≡ core
-  pub write-kept : (core room : List ℕ) → writeNumberOf core (length room) ≢ 0 → writeOf core room ≡ room
+  pub read-kept : (bytes core : List ℕ) → readNumberOf bytes (length core) ≢ 0 → readFileOf bytes core ≡ core
+  pub write-kept : (core room : List ℕ) → writeNumberOf core (length room) ≢ 0 → writeFileOf core room ≡ room
   -- the inspector: 1, then 2, of the core, whatever the sheet is; then 30 of a sheet that is no sheet by its length
   pub inspect-length : (core sheet : List ℕ) → lengthFits core ≡ false → verdictOf core sheet ≡ given 1 0
   pub inspect-words : (core sheet : List ℕ) → lengthFits core ≡ true → wordsFit core ≡ false → verdictOf core sheet ≡ given 2 0

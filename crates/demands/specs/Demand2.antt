@@ -9,13 +9,12 @@ use lib.ListN.{length}
 use Rattle.word.specs.Core.{lengthFits, wordsFit}
 use Rattle.word.specs.Digits.{below}
 use Rattle.machine.specs.declared.outcome.Registers.{Registers}
-use Rattle.machine.specs.States.{State}
-use Rattle.machine.specs.Shapes.{stateOf}
+use Rattle.machine.specs.States.{State, stateOf}
 use Rattle.machine.specs.Steps.{refusalOf, Stepped, stepOf}
 use Rattle.machine.specs.Runs.{Run, endsAt, counted, runFrom, runOf}
 use Rattle.laws.specs.Trials.{trials, allCome}
 use Rattle.laws.specs.Runs.{goesOnFor}
-use Rattle.tape.specs.Files.{readNumberOf, readOf, writeNumberOf, writeOf}
+use Rattle.tape.specs.Files.{readNumberOf, readFileOf, writeNumberOf, writeFileOf}
 
 pub record Demand2 : Type 0 where
   -- P1 to P10 of the paper: no machine that stops always, never moves or has one fixed answer
@@ -37,7 +36,7 @@ pub record Demand2 : Type 0 where
   pub run-add : (n m : ℕ) (st : State) → runFrom (n + m) st ≡ goesOnFor (runFrom n st) m
   -- an accepted file read and written is the same file
   pub file-same : (bytes core room : List ℕ) → below 256 bytes → readNumberOf bytes (length core) ≡ 0 → length room ≡ length bytes
-      → (writeNumberOf (readOf bytes core) (length room) ≡ 0) × (writeOf (readOf bytes core) room ≡ bytes)
+      → (writeNumberOf (readFileOf bytes core) (length room) ≡ 0) × (writeFileOf (readFileOf bytes core) room ≡ bytes)
   -- a core written and read is the same core
   pub core-same : (core room old : List ℕ) → lengthFits core ≡ true → wordsFit core ≡ true → length room ≡ 6 * length core → length old ≡ length core
-      → (writeNumberOf core (length room) ≡ 0) × (readNumberOf (writeOf core room) (length old) ≡ 0) × (readOf (writeOf core room) old ≡ core)
+      → (writeNumberOf core (length room) ≡ 0) × (readNumberOf (writeFileOf core room) (length old) ≡ 0) × (readFileOf (writeFileOf core room) old ≡ core)

@@ -4,11 +4,12 @@ use mathlib.Core.Path.{_≡_}
 use mathlib.Core.Bool.{Bool, true, false, not}
 use mathlib.Core.List.{List, [], _∷_}
 use Rattle.word.specs.Core.{lengthFits, wordsFit}
-use Rattle.inspector.specs.Sheets.{entries, codeWordsOf, tableOf, sheetFits, recordGood}
+use Rattle.sheet.specs.Sheets.{entries, codeWordsOf, tableOf}
 use Rattle.inspector.specs.Areas.{astray}
 use Rattle.inspector.specs.Cells.{unfit}
 use Rattle.inspector.specs.Scan.{breaksAt}
 use Rattle.inspector.specs.Targets.{missesTarget}
+use Rattle.inspector.specs.Records.{sheetFits, recordGood}
 
 -- A printed rule: its number, how many places it has, and where it is broken.
 pub record Rule : Type 0 where

@@ -11,8 +11,8 @@ use Rattle.machine.specs.declared.outcome.Cause.{Cause}
 use Rattle.machine.specs.declared.outcome.Cause.the-variants.{Address, Overflow, Presence, Flag, Index, Unbuilt, Unwhole, ZeroDivisor}
 use Rattle.machine.specs.States.{State}
 use Rattle.machine.specs.Steps.{Ended, next, communicated, stopped, executeOf, refusalOf}
-use Rattle.inspector.specs.Sheets.{codeOf, codeWordsOf, sOf, roomOf, rOf}
-use Rattle.inspector.specs.Cells.{cellOf}
+use Rattle.sheet.specs.Sheets.{codeOf, codeWordsOf, sOf, roomOf, rOf, cellOf}
+use Rattle.word.specs.Addresses.{cellAddress}
 
 -- "Start: C first code word, L, F 0, A, B empty, SALF, MSFF off", S and R as the sheet has them.
 abbrev pub startOf : List ℕ → List ℕ → State
@@ -32,13 +32,13 @@ pub record StackWord (sheet : List ℕ) (m : ℕ) : Type 0 where
 pub record NumberCell (sheet : List ℕ) (m : ℕ) : Type 0 where
   pub cell : ℕ
   pub number : cellOf sheet cell ≡ 3
-  pub here : m ≡ 64 * rOf sheet + cell
+  pub here : m ≡ cellAddress (rOf sheet) cell
 
 pub record ArrayWord (core sheet : List ℕ) (m : ℕ) : Type 0 where
   pub cell : ℕ
   pub array : cellOf sheet cell ≡ 4
-  pub from : addressOf (getD core (64 * rOf sheet + cell) 0) ≤ m
-  pub below : m < addressOf (getD core (64 * rOf sheet + cell) 0) + sizeOf (getD core (64 * rOf sheet + cell) 0)
+  pub from : addressOf (getD core (cellAddress (rOf sheet) cell) 0) ≤ m
+  pub below : m < addressOf (getD core (cellAddress (rOf sheet) cell) 0) + sizeOf (getD core (cellAddress (rOf sheet) cell) 0)
 
 abbrev pub Open : List ℕ → List ℕ → ℕ → Type 0
 Open core sheet m = NumberCell sheet m ⊎ ArrayWord core sheet m

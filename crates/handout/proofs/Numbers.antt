@@ -10,63 +10,65 @@ use lib.ListN.{length}
 use Rattle.word.specs.Core.{lengthFits, wordsFit}
 use Rattle.word.specs.Layout.{presenceOf, sizeOf, addressOf}
 use Rattle.word.specs.Kinds.{kindOf}
-use Rattle.handout.specs.HandOut.{choose, isData, arrayFits, placeOf, wordOf, cellFits, numberOf, startOf, countOf}
+use Rattle.handout.specs.HandOut.{isData, arrayFits, cellWord, cellFits, handOutNumber, stretchStart, stretchCount}
+use Rattle.word.specs.Choices.{choose}
+use Rattle.word.specs.Addresses.{cellAddress}
 
 module _ (core : List ℕ) (r cell : ℕ) where
-  pub number-length : lengthFits core ≡ false → 1 ≡ numberOf core r cell
-  unfolding numberOf
+  pub number-length : lengthFits core ≡ false → 1 ≡ handOutNumber core r cell
+  unfolding handOutNumber
   number-length l = rw l
 
-  pub number-words : lengthFits core ≡ true → wordsFit core ≡ false → 2 ≡ numberOf core r cell
-  unfolding numberOf
+  pub number-words : lengthFits core ≡ true → wordsFit core ≡ false → 2 ≡ handOutNumber core r cell
+  unfolding handOutNumber
   number-words l w = rw (l, w)
 
-  pub number-r : lengthFits core ≡ true → wordsFit core ≡ true → 512 ≤ r → 3 ≡ numberOf core r cell
-  unfolding numberOf
+  pub number-r : lengthFits core ≡ true → wordsFit core ≡ true → 512 ≤ r → 3 ≡ handOutNumber core r cell
+  unfolding handOutNumber
   number-r l w h = rw (l, w, le-ltb r 512 h)
 
-  pub number-cell : lengthFits core ≡ true → wordsFit core ≡ true → r < 512 → 1024 ≤ cell → 3 ≡ numberOf core r cell
-  unfolding numberOf
+  pub number-cell : lengthFits core ≡ true → wordsFit core ≡ true → r < 512 → 1024 ≤ cell → 3 ≡ handOutNumber core r cell
+  unfolding handOutNumber
   number-cell l w h k = rw (l, w, lt-ltb r 512 h, le-ltb cell 1024 k)
 
-  pub number-out : lengthFits core ≡ true → wordsFit core ≡ true → r < 512 → cell < 1024 → length core ≤ placeOf r cell → 36 ≡ numberOf core r cell
-  unfolding numberOf cellFits
+  pub number-out : lengthFits core ≡ true → wordsFit core ≡ true → r < 512 → cell < 1024 → length core ≤ cellAddress r cell → 36 ≡ handOutNumber core r cell
+  unfolding handOutNumber cellFits
   number-out l w h k o =
-      rw (l, w, lt-ltb r 512 h, lt-ltb cell 1024 k, le-ltb (placeOf r cell) (length core) o)
+      rw (l, w, lt-ltb r 512 h, lt-ltb cell 1024 k, le-ltb (cellAddress r cell) (length core) o)
 
-  pub number-unfit : lengthFits core ≡ true → wordsFit core ≡ true → r < 512 → cell < 1024 → placeOf r cell < length core → arrayFits (length core) (wordOf core r cell) ≡ false
-      → 36 ≡ numberOf core r cell
-  unfolding numberOf cellFits
+  pub number-unfit : lengthFits core ≡ true → wordsFit core ≡ true → r < 512 → cell < 1024 → cellAddress r cell < length core → arrayFits (length core) (cellWord core r cell) ≡ false
+      → 36 ≡ handOutNumber core r cell
+  unfolding handOutNumber cellFits
   number-unfit l w h k o f =
-      rw (l, w, lt-ltb r 512 h, lt-ltb cell 1024 k, lt-ltb (placeOf r cell) (length core) o, f)
+      rw (l, w, lt-ltb r 512 h, lt-ltb cell 1024 k, lt-ltb (cellAddress r cell) (length core) o, f)
 
-  pub number-fits : lengthFits core ≡ true → wordsFit core ≡ true → r < 512 → cell < 1024 → placeOf r cell < length core → arrayFits (length core) (wordOf core r cell) ≡ true
-      → 0 ≡ numberOf core r cell
-  unfolding numberOf cellFits
+  pub number-fits : lengthFits core ≡ true → wordsFit core ≡ true → r < 512 → cell < 1024 → cellAddress r cell < length core → arrayFits (length core) (cellWord core r cell) ≡ true
+      → 0 ≡ handOutNumber core r cell
+  unfolding handOutNumber cellFits
   number-fits l w h k o f =
-      rw (l, w, lt-ltb r 512 h, lt-ltb cell 1024 k, lt-ltb (placeOf r cell) (length core) o, f)
+      rw (l, w, lt-ltb r 512 h, lt-ltb cell 1024 k, lt-ltb (cellAddress r cell) (length core) o, f)
 
 -- A cell with number 0 is in core, and its word names some words, all in core.
 pub record Named (core : List ℕ) (r cell : ℕ) : Type 0 where
-  pub inside : placeOf r cell < length core
-  pub some : 0 < sizeOf (wordOf core r cell)
-  pub whole : addressOf (wordOf core r cell) + sizeOf (wordOf core r cell) ≤ length core
+  pub inside : cellAddress r cell < length core
+  pub some : 0 < sizeOf (cellWord core r cell)
+  pub whole : addressOf (cellWord core r cell) + sizeOf (cellWord core r cell) ≤ length core
 
 no : {A : Type 0} (n : ℕ) → suc n ≡ 0 → A
 no n e = absurd (omega arith)
 
 module _ (core : List ℕ) (r cell : ℕ) where
-  pub number-named : numberOf core r cell ≡ 0 → Named core r cell
-  unfolding numberOf cellFits arrayFits
-  number-named e = by (lengthFits core) (wordsFit core) (ltb r 512 && ltb cell 1024) _ (isData (kindOf (wordOf core r cell)) && presenceOf (wordOf core r cell)) _ _ refl refl refl e
+  pub number-named : handOutNumber core r cell ≡ 0 → Named core r cell
+  unfolding handOutNumber cellFits arrayFits
+  number-named e = by (lengthFits core) (wordsFit core) (ltb r 512 && ltb cell 1024) _ (isData (kindOf (cellWord core r cell)) && presenceOf (cellWord core r cell)) _ _ refl refl refl e
     where
-      by : (a b c d f g h : Bool) → ltb (placeOf r cell) (length core) ≡ d → ltb 0 (sizeOf (wordOf core r cell)) ≡ g → leb (addressOf (wordOf core r cell) + sizeOf (wordOf core r cell)) (length core) ≡ h
+      by : (a b c d f g h : Bool) → ltb (cellAddress r cell) (length core) ≡ d → ltb 0 (sizeOf (cellWord core r cell)) ≡ g → leb (addressOf (cellWord core r cell) + sizeOf (cellWord core r cell)) (length core) ≡ h
           → _≡_ {A = ℕ} (choose a (choose b (choose c (choose (d && (f && g && h)) 0 36) 3) 2) 1) 0 → Named core r cell
       by true true true true true true true p q s e =
           record {
-            inside = ltb-true (placeOf r cell) (length core) p;
-            some = ltb-true 0 (sizeOf (wordOf core r cell)) q;
-            whole = leb-true (addressOf (wordOf core r cell) + sizeOf (wordOf core r cell)) (length core) s;
+            inside = ltb-true (cellAddress r cell) (length core) p;
+            some = ltb-true 0 (sizeOf (cellWord core r cell)) q;
+            whole = leb-true (addressOf (cellWord core r cell) + sizeOf (cellWord core r cell)) (length core) s;
           }
       by true true true true true true false p q s e = no 35 e
       by true true true true true false h p q s e = no 35 e
@@ -77,27 +79,27 @@ module _ (core : List ℕ) (r cell : ℕ) where
       by false b c d f g h p q s e = no 0 e
 
   -- The start and the count of each case.
-  pub start-given : numberOf core r cell ≡ 0 → addressOf (wordOf core r cell) ≡ startOf core r cell
-  unfolding startOf
-  start-given e = rw (eq-eqb (numberOf core r cell) 0 e)
+  pub start-given : handOutNumber core r cell ≡ 0 → addressOf (cellWord core r cell) ≡ stretchStart core r cell
+  unfolding stretchStart
+  start-given e = rw (eq-eqb (handOutNumber core r cell) 0 e)
 
-  pub count-given : numberOf core r cell ≡ 0 → sizeOf (wordOf core r cell) ≡ countOf core r cell
-  unfolding countOf
-  count-given e = rw (eq-eqb (numberOf core r cell) 0 e)
+  pub count-given : handOutNumber core r cell ≡ 0 → sizeOf (cellWord core r cell) ≡ stretchCount core r cell
+  unfolding stretchCount
+  count-given e = rw (eq-eqb (handOutNumber core r cell) 0 e)
 
-  pub start-none : (numberOf core r cell ≡ 0 → ⊥) → 0 ≡ startOf core r cell
-  unfolding startOf
-  start-none n = rw (ne-eqb (numberOf core r cell) 0 n)
+  pub start-none : (handOutNumber core r cell ≡ 0 → ⊥) → 0 ≡ stretchStart core r cell
+  unfolding stretchStart
+  start-none n = rw (ne-eqb (handOutNumber core r cell) 0 n)
 
-  pub count-none : (numberOf core r cell ≡ 0 → ⊥) → 0 ≡ countOf core r cell
-  unfolding countOf
-  count-none n = rw (ne-eqb (numberOf core r cell) 0 n)
+  pub count-none : (handOutNumber core r cell ≡ 0 → ⊥) → 0 ≡ stretchCount core r cell
+  unfolding stretchCount
+  count-none n = rw (ne-eqb (handOutNumber core r cell) 0 n)
 
   -- A stretch lies wholly in core, the empty one too.
-  pub within : startOf core r cell + countOf core r cell ≤ length core
-  unfolding startOf countOf
+  pub within : stretchStart core r cell + stretchCount core r cell ≤ length core
+  unfolding stretchStart stretchCount
   within = by _ refl
     where
-      by : (b : Bool) → eqb (numberOf core r cell) 0 ≡ b → choose b (addressOf (wordOf core r cell)) 0 + choose b (sizeOf (wordOf core r cell)) 0 ≤ length core
-      by true e = number-named (eqb-true (numberOf core r cell) 0 e) .whole
+      by : (b : Bool) → eqb (handOutNumber core r cell) 0 ≡ b → choose b (addressOf (cellWord core r cell)) 0 + choose b (sizeOf (cellWord core r cell)) 0 ≤ length core
+      by true e = number-named (eqb-true (handOutNumber core r cell) 0 e) .whole
       by false e = omega arith

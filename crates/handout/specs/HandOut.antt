@@ -6,15 +6,13 @@ use mathlib.Core.List.{List}
 use lib.Dec.{eqb, ltb, leb}
 use lib.ListN.{length, getD, take, drop}
 use denote.Ref.{RefT, ptr, now}
+use Rattle.word.specs.Choices.{choose}
+use Rattle.word.specs.Addresses.{cellAddress}
 use Rattle.word.specs.Core.{lengthFits, wordsFit}
 use Rattle.word.specs.Layout.{presenceOf, sizeOf, addressOf}
 use Rattle.word.specs.Kinds.{kindOf}
 use Rattle.word.specs.declared.kinds.Kind.{Kind}
 use Rattle.word.specs.declared.kinds.Kind.the-variants.{Operand, Data, Program, Control}
-
-abbrev pub choose : {A : Type 0} → Bool → A → A → A
-choose true x y = x
-choose false x y = y
 
 abbrev pub isData : Kind → Bool
 isData Operand = false
@@ -26,36 +24,32 @@ isData Control = false
 unfoldable pub arrayFits : ℕ → ℕ → Bool
 arrayFits len w = isData (kindOf w) && presenceOf w && ltb 0 (sizeOf w) && leb (addressOf w + sizeOf w) len
 
--- "The reference table (PRT) starts at 64R."
-abbrev pub placeOf : ℕ → ℕ → ℕ
-placeOf r cell = 64 * r + cell
-
 -- The word in an array cell.
-abbrev pub wordOf : List ℕ → ℕ → ℕ → ℕ
-wordOf core r cell = getD core (placeOf r cell) 0
+abbrev pub cellWord : List ℕ → ℕ → ℕ → ℕ
+cellWord core r cell = getD core (cellAddress r cell) 0
 
 -- "36 unless the cell is in core and holds" such a descriptor
 unfoldable pub cellFits : List ℕ → ℕ → ℕ → Bool
-cellFits core r cell = ltb (placeOf r cell) (length core) && arrayFits (length core) (wordOf core r cell)
+cellFits core r cell = ltb (cellAddress r cell) (length core) && arrayFits (length core) (cellWord core r cell)
 
 -- "checks 1, 2, 3 (R below 512, cell below 1,024), 36"
-unfoldable pub numberOf : List ℕ → ℕ → ℕ → ℕ
-numberOf core r cell =
+unfoldable pub handOutNumber : List ℕ → ℕ → ℕ → ℕ
+handOutNumber core r cell =
     choose (lengthFits core)
     (choose (wordsFit core) (choose (ltb r 512 && ltb cell 1024) (choose (cellFits core r cell) 0 36) 3) 2)
     1
 
 -- From the descriptor's address for its size; "each with an empty stretch".
-unfoldable pub startOf : List ℕ → ℕ → ℕ → ℕ
-startOf core r cell = choose (eqb (numberOf core r cell) 0) (addressOf (wordOf core r cell)) 0
+unfoldable pub stretchStart : List ℕ → ℕ → ℕ → ℕ
+stretchStart core r cell = choose (eqb (handOutNumber core r cell) 0) (addressOf (cellWord core r cell)) 0
 
-unfoldable pub countOf : List ℕ → ℕ → ℕ → ℕ
-countOf core r cell = choose (eqb (numberOf core r cell) 0) (sizeOf (wordOf core r cell)) 0
+unfoldable pub stretchCount : List ℕ → ℕ → ℕ → ℕ
+stretchCount core r cell = choose (eqb (handOutNumber core r cell) 0) (sizeOf (cellWord core r cell)) 0
 
 unfoldable pub stretchOf : List ℕ → ℕ → ℕ → List ℕ
-stretchOf core r cell = take (countOf core r cell) (drop (startOf core r cell) core)
+stretchOf core r cell = take (stretchCount core r cell) (drop (stretchStart core r cell) core)
 
 -- "that stretch of the core itself": not only those words, but where they stand, eight bytes a word.
 pub record HandedOut (core part : RefT (List ℕ)) (r cell : ℕ) : Type 0 where
   pub words : now part ≡ stretchOf (now core) r cell
-  pub place : ptr part ≡ (ptr core .0, startOf (now core) r cell * 8 + ptr core .1)
+  pub place : ptr part ≡ (ptr core .0, stretchStart (now core) r cell * 8 + ptr core .1)

@@ -1,6 +1,6 @@
 // The words an array cell names, handed out as that stretch of the core itself.
 ghost use mathlib.Core.Path.{_≡_};
-ghost use Rattle.handout.specs.HandOut.{isData, arrayFits, numberOf, startOf, countOf, HandedOut};
+ghost use Rattle.handout.specs.HandOut.{isData, arrayFits, handOutNumber, stretchStart, stretchCount, HandedOut};
 ghost use Rattle.word.specs.Kinds.{kindOf};
 use word::Kind;
 
@@ -32,7 +32,7 @@ fn array_fits(len: usize, w: u64) -> bool
 
 // Why an array cell's words are not handed out, or 0.
 pub fn hand_out_number(core: &[u64], r: u16, cell: u16) -> u64
-    ensures { λ n. ⌜ n ≡ numberOf (now (core .entry)) r cell ⌝ }
+    ensures { λ n. ⌜ n ≡ handOutNumber (now (core .entry)) r cell ⌝ }
 {
     if word::length_fits(core) {
         if word::words_fit(core) {
@@ -56,7 +56,7 @@ pub fn hand_out_number(core: &[u64], r: u16, cell: u16) -> u64
 
 // Where the words of an array cell are: the descriptor's address and size, or no words.
 pub fn hand_out_bounds(core: &[u64], r: u16, cell: u16) -> Stretch
-    ensures { λ s. ⌜ (s .start ≡ startOf (now (core .entry)) r cell) × (s .count ≡ countOf (now (core .entry)) r cell) ⌝ }
+    ensures { λ s. ⌜ (s .start ≡ stretchStart (now (core .entry)) r cell) × (s .count ≡ stretchCount (now (core .entry)) r cell) ⌝ }
 {
     if hand_out_number(core, r, cell) == 0 {
         let at = 64 * r as usize + cell as usize;

@@ -9,17 +9,17 @@ use lib.Dec.{eqb, ltb, leb}
 use lib.ListN.{getD}
 use Rattle.inspector.specs.declared.targets.Landing.{Landing}
 use Rattle.inspector.specs.declared.targets.Landing.the-variants.{On, Past}
-use Rattle.inspector.specs.Sheets.{codeOf, codeWordsOf}
+use Rattle.sheet.specs.Sheets.{codeOf, codeWordsOf}
 use Rattle.inspector.specs.Scan.{Left, syllableAt, shapeAt}
 use Rattle.inspector.specs.Targets.{isEmpty, distance, lands, missesAt, misses, syllableMisses, missesTarget}
-use Rattle.inspector.specs.Forms.{farOf, landOf, Aimed}
+use Rattle.inspector.specs.ForCode.Forms.{farOf, landOf, Aimed}
 use Rattle.inspector.proofs.Syllables.{All, end, _&_, each, unknown}
 use Rattle.machine.specs.Outcomes.{Res, on, halt}
 use Rattle.machine.specs.Branches.{landingOf}
 use Rattle.syllable.specs.declared.Syllable.{Syllable}
 use Rattle.syllable.specs.Decoding.{decodeOf}
-use Rattle.syllable.specs.Numbers.{syllableAt as numbered}
-use Rattle.syllable.specs.Places.{syllableOf, nextOf}
+use Rattle.syllable.specs.ForCode.Numbered.{syllableNumbered as numbered}
+use Rattle.syllable.specs.Positions.{syllableOf, nextOf}
 
 pub far-yes : (m : ℕ) {r : ℕ} → m < 1025 → r ≡ m - 1 → r ≡ farOf m
 far-yes m h e = e ∙ sym (ap (λ (s : Bool). elim s [ true ↦ m - 1 | false ↦ 0 ]) (lt-ltb m 1025 h))

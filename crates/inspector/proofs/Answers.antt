@@ -10,9 +10,10 @@ use lib.ListN.{length}
 use Rattle.inspector.specs.declared.verdict.Verdict.{Verdict}
 use Rattle.inspector.specs.declared.verdict.Find.{Find}
 use Rattle.inspector.specs.declared.verdict.Find.the-variants.{At, Nowhere}
-use Rattle.inspector.specs.Sheets.{Entry, entryAt, entries, codeWordsOf, roomOf, tableOf, ranged, recordGood, sheetFits}
+use Rattle.sheet.specs.Sheets.{Entry, entryAt, entries, codeWordsOf, roomOf, tableOf}
 use Rattle.inspector.specs.Verdicts.{Found, at, nowhere, lowest, given, blamed, refused}
-use Rattle.inspector.specs.Forms.{foundOf, Ranged}
+use Rattle.inspector.specs.ForCode.Forms.{foundOf, SheetRanged}
+use Rattle.inspector.specs.Records.{ranged, recordGood, sheetFits}
 
 pub blames : (n : ℕ) {p : ℕ} {f : Found} {r : Find} (rest : Verdict) → foundOf r ≡ f → r ≡ At p → given n p ≡ blamed n f rest
 blames n rest e t = sym (ap (λ (x : Found). blamed n x rest) (sym e ∙ ap foundOf t))
@@ -69,7 +70,7 @@ module _ (sheet : List ℕ) (s : sheetFits sheet ≡ true) where
   fits-most = leb-true (entries sheet) 1027 (second-of (eqb (length sheet % 6) 0 && leb 3 (entries sheet)) (leb (entries sheet) 1027) s)
 
   -- The counts of the first three records, once none is bad.
-  pub ranges : lowest (λ (i : ℕ). not (recordGood sheet i)) (entries sheet) 0 ≡ nowhere → Ranged sheet
+  pub ranges : lowest (λ (i : ℕ). not (recordGood sheet i)) (entries sheet) 0 ≡ nowhere → SheetRanged sheet
   unfolding recordGood
   ranges e =
       record {

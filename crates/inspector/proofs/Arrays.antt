@@ -7,9 +7,9 @@ use native.Mathlib.Omega.{arith}
 use borrow.Author.Tests.{ne-eqb}
 use lib.Dec.{eqb}
 use lib.ListN.{getD}
-use Rattle.inspector.specs.Sheets.{rOf}
-use Rattle.inspector.specs.Cells.{cellOf, plainWords, arrayFits, unfit}
-use Rattle.inspector.specs.Forms.{namedOf, clearOf}
+use Rattle.sheet.specs.Sheets.{rOf, cellOf}
+use Rattle.inspector.specs.Cells.{plainWords, arrayFits, unfit}
+use Rattle.inspector.specs.ForCode.Forms.{namedOf, clearOf}
 use Rattle.word.specs.Layout.{flagOf, sizeOf, addressOf}
 
 -- The words of an array below the j-th are plain.

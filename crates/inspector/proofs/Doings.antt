@@ -8,9 +8,9 @@ use borrow.Author.Tests.{le-leb, lt-ltb, le-ltb, lt-leb, ne-eqb, eq-eqb, ltb-tru
 use lib.Dec.{eqb, ltb, leb}
 use Rattle.inspector.specs.declared.shapes.Effect.{Effect}
 use Rattle.inspector.specs.declared.shapes.Effect.the-variants.{Drops, Puts, Swaps, Breaks}
-use Rattle.inspector.specs.Cells.{cellOf}
+use Rattle.sheet.specs.Sheets.{cellOf}
 use Rattle.inspector.specs.Scan.{Item, literal, number, place, Shape, Left, leaves, breaks, when, value, writable, calledOver, twoValues, oneValue, tested, doubled, deleted, loaded, stored, branched, branchedIf, communicated}
-use Rattle.inspector.specs.Forms.{itemOf, Seen, none, one, two, more, effected, whenOf}
+use Rattle.inspector.specs.ForCode.Forms.{itemOf, Seen, none, one, two, more, effected, whenOf}
 
 pub value-of : (x : ℕ) → leb x 1024 ≡ value (itemOf x)
 unfolding itemOf

@@ -4,17 +4,18 @@ use mathlib.Core.Path.{_≡_, refl}
 use mathlib.Core.List.{List, [], _∷_, map}
 use lib.ListN.{replicate}
 use Rattle.inspector.specs.declared.verdict.Verdict.{Verdict}
-use Rattle.inspector.specs.Sheets.{sheetFits, recordGood}
+use Rattle.inspector.specs.Records.{sheetFits, recordGood}
 use Rattle.inspector.specs.Areas.{astray}
-use Rattle.inspector.specs.Cells.{cellOf, plainWords, arrayFits, unfit}
+use Rattle.inspector.specs.Cells.{plainWords, arrayFits, unfit}
 use Rattle.inspector.specs.Scan.{shapeAt, breaksAt}
 use Rattle.inspector.specs.Targets.{missesTarget}
 use Rattle.inspector.specs.Verdicts.{given, verdictOf}
-use Rattle.machine.specs.Outcomes.{if_then_else_}
+use Rattle.word.specs.Choices.{if_then_else_}
 use Rattle.machine.specs.Branches.{landingOf}
 use Rattle.syllable.specs.Decoding.{decodeOf}
-use Rattle.syllable.specs.Places.{syllableOf}
+use Rattle.syllable.specs.Positions.{syllableOf}
 use Rattle.word.specs.Core.{lengthFits, wordsFit}
+use Rattle.sheet.specs.Sheets.{cellOf}
 
 -- 128 words, the code at word 0, as the paper's input bytes give it, all else 0.
 abbrev core : List ℕ

@@ -13,14 +13,14 @@ use Rattle.inspector.specs.declared.verdict.Find.{Find}
 use Rattle.inspector.specs.declared.verdict.Find.the-variants.{At, Nowhere}
 use Rattle.inspector.specs.declared.shapes.Scanned.{Scanned}
 use Rattle.inspector.specs.declared.shapes.Scanned.the-variants.{Height, Broken}
-use Rattle.inspector.specs.Sheets.{codeOf, codeWordsOf, roomOf}
+use Rattle.sheet.specs.Sheets.{codeOf, codeWordsOf, roomOf}
 use Rattle.inspector.specs.Scan.{Shape, Left, leaves, breaks, then, within, broken, closes, syllableLeft, syllableAt, shapeAt, breaksAt}
-use Rattle.inspector.specs.Forms.{shapeOf, leftOf, Became, Mark, Marked, marksOf, Scans}
+use Rattle.inspector.specs.ForCode.Forms.{shapeOf, scannedOf, Became, Mark, Marked, marksOf, Scans}
 use Rattle.inspector.proofs.Searches.{Sought, sought-none, sought-more, sought-at, sought-all}
 use Rattle.syllable.specs.declared.Syllable.{Syllable}
 use Rattle.syllable.specs.Decoding.{decodeOf}
-use Rattle.syllable.specs.Numbers.{syllableAt as numbered}
-use Rattle.syllable.specs.Places.{syllableOf}
+use Rattle.syllable.specs.ForCode.Numbered.{syllableNumbered as numbered}
+use Rattle.syllable.specs.Positions.{syllableOf}
 
 pub record Going (core sheet items marks : List ℕ) (h i : ℕ) : Type 0 where
   pub shape : shapeAt core sheet i ≡ leaves (shapeOf items h)
@@ -54,7 +54,7 @@ module _ {core sheet items marks new : List ℕ} {h i room code words : ℕ} {r 
   reads : numbered n k ≡ syllableAt core sheet i
   reads = y ∙ ap (λ (c : ℕ). decodeOf (syllableOf (getD core (c + i / 4) 0) (i % 4))) ec
 
-  next : shapeAt core sheet (suc i) ≡ leftOf new r
+  next : shapeAt core sheet (suc i) ≡ scannedOf new r
   unfolding shapeAt
   next =
       ap (λ (s : Left). then s (λ xs. within (roomOf sheet) (syllableLeft sheet (syllableAt core sheet i) xs))) (g .shape)
@@ -62,23 +62,23 @@ module _ {core sheet items marks new : List ℕ} {h i room code words : ℕ} {r 
       ∙ ap (λ (m : ℕ). within m (syllableLeft sheet (numbered n k) (shapeOf items h))) (sym er)
       ∙ sym (t .same)
 
-  breaks-as : (b : Bool) → broken (leftOf new r) ≡ b → breaksAt core sheet i ≡ (b || (eqb (suc i) (4 * codeWordsOf sheet) && not (closes (syllableAt core sheet i))))
+  breaks-as : (b : Bool) → broken (scannedOf new r) ≡ b → breaksAt core sheet i ≡ (b || (eqb (suc i) (4 * codeWordsOf sheet) && not (closes (syllableAt core sheet i))))
   unfolding breaksAt
   breaks-as b e = ap (λ (c : Bool). c || (eqb (suc i) (4 * codeWordsOf sheet) && not (closes (syllableAt core sheet i)))) (ap broken next ∙ e)
 
   pub going-broken : (marks′ : List ℕ) → i < 4 * words → r ≡ Broken → Scans core sheet marks′ (At i)
-  unfolding leftOf
+  unfolding scannedOf
   going-broken marks′ l e =
       record {
-        found = sought-at (breaksAt core sheet) (4 * codeWordsOf sheet) i (subst (λ (w : ℕ). i < 4 * w) ew l) (breaks-as true (ap (λ (x : Scanned). broken (leftOf new x)) e)) (g .sought);
+        found = sought-at (breaksAt core sheet) (4 * codeWordsOf sheet) i (subst (λ (w : ℕ). i < 4 * w) ew l) (breaks-as true (ap (λ (x : Scanned). broken (scannedOf new x)) e)) (g .sought);
         marked = tt;
       }
 
   last-as : {m : ℕ} → r ≡ Height m → breaksAt core sheet i ≡ (eqb (i + 1) (4 * words) && not (closes (numbered n k)))
-  unfolding leftOf
+  unfolding scannedOf
   last-as e =
       let up : suc i ≡ i + 1 = omega arith in
-      breaks-as false (ap (λ (x : Scanned). broken (leftOf new x)) e)
+      breaks-as false (ap (λ (x : Scanned). broken (scannedOf new x)) e)
       ∙ ap (λ (w : ℕ). eqb (suc i) (4 * w) && not (closes (syllableAt core sheet i))) (sym ew)
       ∙ ap (λ (s : Syllable). eqb (suc i) (4 * words) && not (closes s)) (sym reads)
       ∙ ap (λ (j : ℕ). eqb j (4 * words) && not (closes (numbered n k))) up
@@ -92,11 +92,11 @@ module _ {core sheet items marks new : List ℕ} {h i room code words : ℕ} {r 
 
   pub going-more : {m x : ℕ} {u : Bool} → i < 4 * words → i < length marks → Mark (leaves (shapeOf items h)) x → r ≡ Height m →
       u ≡ (eqb (i + 1) (4 * words) && not (closes (numbered n k))) → u ≡ false → Going core sheet new (set marks i x) m (i + 1)
-  unfolding leftOf
+  unfolding scannedOf
   going-more {m} {x} l b k e f u =
       let up : i + 1 ≡ suc i = omega arith in
       record {
-        shape = ap (shapeAt core sheet) up ∙ next ∙ ap (leftOf new) e;
+        shape = ap (shapeAt core sheet) up ∙ next ∙ ap (scannedOf new) e;
         sought = sought-more (breaksAt core sheet) (4 * codeWordsOf sheet) i (subst (λ (w : ℕ). i < 4 * w) ew l) (last-as e ∙ sym f ∙ u) (g .sought);
         marked = marked-more marks core sheet i x b (subst (λ (s : Left). Mark s x) (sym (g .shape)) k) (g .marked);
       }

@@ -8,9 +8,8 @@ use borrow.Author.Tests.{lt-ltb, le-ltb, le-leb, lt-leb, ltb-true, ltb-false, le
 use lib.Dec.{ltb, leb, eqb}
 use lib.ListN.{length, getD, set, replicate, length-set, length-replicate, getD-replicate}
 use lib.Seq.{getD-set-same, getD-set-other}
-use Rattle.inspector.specs.Sheets.{entryAt, entries}
-use Rattle.inspector.specs.Cells.{cellIn, cellOf}
-use Rattle.inspector.specs.Forms.{painted, Painted, Cells}
+use Rattle.sheet.specs.Sheets.{entryAt, entries, cellIn, cellOf}
+use Rattle.inspector.specs.ForCode.Forms.{painted, Painted, Cells}
 
 abbrev chosen : ℕ → ℕ → Bool → ℕ
 chosen kind old b = elim b [ true ↦ kind | false ↦ old ]

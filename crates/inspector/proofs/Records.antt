@@ -5,7 +5,8 @@ use mathlib.Core.Bool.{Bool, true, false, not, _&&_, _||_}
 use mathlib.Core.List.{List}
 use native.Mathlib.Omega.{arith}
 use native.Mathlib.Nat.{not-suc-le-zero}
-use Rattle.inspector.specs.Sheets.{entryAt, tableOf, cellsGood, floorOf, recordGood}
+use Rattle.sheet.specs.Sheets.{entryAt, tableOf}
+use Rattle.inspector.specs.Records.{cellsGood, floorOf, recordGood}
 
 pub floor-none : (sheet : List ℕ) (i : ℕ) → i ≤ 3 → 0 ≡ floorOf sheet (i - 3)
 floor-none sheet i h =

@@ -12,7 +12,7 @@ use Rattle.inspector.specs.declared.shapes.Effect.{Effect}
 use Rattle.inspector.specs.declared.shapes.Effect.the-variants.{Drops, Puts, Swaps, Breaks}
 use Rattle.inspector.specs.declared.shapes.Scanned.the-variants.{Height, Broken}
 use Rattle.inspector.specs.Scan.{Item, Shape, Left, leaves, breaks, when, within, exchanged}
-use Rattle.inspector.specs.Forms.{itemOf, shapeOf, Seen, none, one, two, more, effected, leftOf, Became}
+use Rattle.inspector.specs.ForCode.Forms.{itemOf, shapeOf, Seen, none, one, two, more, effected, scannedOf, Became}
 
 pub length-shape : (items : List ℕ) (h : ℕ) → length (shapeOf items h) ≡ h
 unfolding shapeOf
@@ -68,7 +68,7 @@ module _ (room : ℕ) (items : List ℕ) (h t n : ℕ) (e : n ≡ h - t) where
   dropped = drop-shape items h t ∙ ap (shapeOf items) (sym e)
 
   pub drops-yes : n ≤ room → Became room items items (Height n) (effected (Drops t) (shapeOf items h))
-  unfolding effected leftOf
+  unfolding effected scannedOf
   drops-yes l =
       record {
         same = within-yes room (shapeOf items n) (omega (arith, length-shape items n)) ∙ sym (left-of room dropped);
@@ -76,12 +76,12 @@ module _ (room : ℕ) (items : List ℕ) (h t n : ℕ) (e : n ≡ h - t) where
       }
 
   pub drops-no : room < n → Became room items items Broken (effected (Drops t) (shapeOf items h))
-  unfolding effected leftOf
+  unfolding effected scannedOf
   drops-no l =
       record { same = within-no room (shapeOf items n) (omega (arith, length-shape items n)) ∙ sym (left-of room dropped); sized = refl }
 
   pub puts-yes : (x : ℕ) {new : List ℕ} → n < room → room ≤ length items → new ≡ set items n x → Became room items new (Height (n + 1)) (effected (Puts t x) (shapeOf items h))
-  unfolding effected leftOf
+  unfolding effected scannedOf
   puts-yes x {new} l k s =
       let one-more : suc n ≡ n + 1 = omega arith in
       let up : shapeOf new (n + 1) ≡ itemOf x ∷ shapeOf items n =
@@ -94,7 +94,7 @@ module _ (room : ℕ) (items : List ℕ) (h t n : ℕ) (e : n ≡ h - t) where
       }
 
   pub puts-no : (x : ℕ) → room ≤ n → Became room items items Broken (effected (Puts t x) (shapeOf items h))
-  unfolding effected leftOf
+  unfolding effected scannedOf
   puts-no x l =
       record {
         same =
@@ -114,7 +114,7 @@ few-swap items (suc (suc h)) l = absurd (over h l)
     over h l = omega arith
 
 pub swaps-few : (room : ℕ) (items : List ℕ) (h : ℕ) → h < 2 → Became room items items Broken (effected Swaps (shapeOf items h))
-unfolding effected leftOf
+unfolding effected scannedOf
 swaps-few room items h l = record { same = ap (within room) (few-swap items h l); sized = refl }
 
 many-swap : (items : List ℕ) (h m : ℕ) → h ≡ suc (suc m) → exchanged (shapeOf items h) ≡ leaves (itemOf (getD items m 0) ∷ itemOf (getD items (suc m) 0) ∷ shapeOf items m)
@@ -122,7 +122,7 @@ unfolding shapeOf
 many-swap items h m e = ap (λ (x : ℕ). exchanged (shapeOf items x)) e
 
 pub swaps-no : (room : ℕ) (items : List ℕ) (h : ℕ) → 2 ≤ h → room < h → Became room items items Broken (effected Swaps (shapeOf items h))
-unfolding effected leftOf
+unfolding effected scannedOf
 swaps-no room items h l k =
     let e : h ≡ suc (suc (h - 2)) = omega arith in
     let big : room < suc (suc (length (shapeOf items (h - 2)))) = omega (arith, length-shape items (h - 2)) in
@@ -130,7 +130,7 @@ swaps-no room items h l k =
 
 pub swaps-yes : (room : ℕ) (items : List ℕ) (h a b : ℕ) {new : List ℕ} → 2 ≤ h → h ≤ room → room ≤ length items → a ≡ getD items (h - 1) 0 → b ≡ getD items (h - 2) 0 →
     new ≡ set (set items (h - 1) b) (h - 2) a → Became room items new (Height h) (effected Swaps (shapeOf items h))
-unfolding effected leftOf
+unfolding effected scannedOf
 swaps-yes room items h a b {new} l k j ea eb s =
     let e : h ≡ suc (suc (h - 2)) = omega arith in
     let p : h - 1 ≡ suc (h - 2) = omega arith in
@@ -148,7 +148,7 @@ swaps-yes room items h a b {new} l k j ea eb s =
     }
 
 pub breaks-all : (room : ℕ) (items : List ℕ) (h : ℕ) → Became room items items Broken (effected Breaks (shapeOf items h))
-unfolding effected leftOf
+unfolding effected scannedOf
 breaks-all room items h = record { same = refl; sized = refl }
 
 pub by-effect : {room : ℕ} (h : ℕ) {items new : List ℕ} {r : _} {e f : Effect} → e ≡ f → Became room items new r (effected f (shapeOf items h)) → Became room items new r (effected e (shapeOf items h))

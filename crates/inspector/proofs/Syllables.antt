@@ -15,9 +15,10 @@ use Rattle.syllable.specs.declared.Syllable.{Syllable}
 use Rattle.syllable.specs.declared.Syllable.the-variants.{Operator as Operates}
 use Rattle.syllable.specs.Codes.{listed}
 use Rattle.syllable.specs.Decoding.{decodeOf}
-use Rattle.syllable.specs.Numbers.{numberOf, numbersFrom, tableOf, operatorFrom, operatorAt, syllableAt}
-use Rattle.syllable.specs.Places.{syllableOf}
+use Rattle.syllable.specs.Numbers.{operatorNumber, numbersFrom, operatorNumbers}
+use Rattle.syllable.specs.Positions.{syllableOf}
 use Rattle.syllable.proofs.Numbered.{operator-number, decode-number}
+use Rattle.syllable.specs.ForCode.Numbered.{operatorFrom, operatorNumbered, syllableNumbered}
 
 -- What holds of each of m numbers from lo on holds of a number in that range.
 infixr 5 _&_
@@ -42,17 +43,17 @@ past [] n k h = refl
 past (o ∷ os) zero k h = absurd (not-suc-le-zero h)
 past (o ∷ os) (suc n) k h = past os n k (le-of-suc-le-suc h)
 
-past-at : (n k : ℕ) → 36 < n → NotBuilt k ≡ operatorAt n k
+past-at : (n k : ℕ) → 36 < n → NotBuilt k ≡ operatorNumbered n k
 past-at zero k h = absurd (not-suc-le-zero h)
 past-at (suc n) k h = past listed n k (le-of-suc-le-suc h)
 
-pub unknown : (n k : ℕ) → 39 < n → Operates (NotBuilt k) ≡ syllableAt n k
+pub unknown : (n k : ℕ) → 39 < n → Operates (NotBuilt k) ≡ syllableNumbered n k
 unknown n k h =
     ap Operates (past-at n k (omega arith)) ∙ operator-number n k (λ e. omega arith) (λ e. omega arith) (λ e. omega arith)
 
 module _ (sheet : List ℕ) (k : ℕ) (xs : Shape) where
   abbrev Leaves : (Shape → Left) → ℕ → Type 0
-  Leaves f n = f xs ≡ syllableLeft sheet (syllableAt n k) xs
+  Leaves f n = f xs ≡ syllableLeft sheet (syllableNumbered n k) xs
 
   pub two-at : (n : ℕ) → 1 ≤ n → n ≤ 14 → Leaves twoValues n
   two-at n h l =
@@ -71,11 +72,11 @@ module _ (sheet : List ℕ) (k : ℕ) (xs : Shape) where
   branch-if-at n h l = each (Leaves branchedIf) 2 32 n (refl & refl & end) h (omega arith)
 
   -- A single number.
-  pub just : (n m : ℕ) {l : Left} → n ≡ m → l ≡ syllableLeft sheet (syllableAt m k) xs → l ≡ syllableLeft sheet (syllableAt n k) xs
-  just n m e f = f ∙ sym (ap (λ (j : ℕ). syllableLeft sheet (syllableAt j k) xs) e)
+  pub just : (n m : ℕ) {l : Left} → n ≡ m → l ≡ syllableLeft sheet (syllableNumbered m k) xs → l ≡ syllableLeft sheet (syllableNumbered n k) xs
+  just n m e f = f ∙ sym (ap (λ (j : ℕ). syllableLeft sheet (syllableNumbered j k) xs) e)
 
   abbrev Late : ℕ → Type 0
-  Late n = (n ≡ 36 → ⊥) → (n ≡ 37 → ⊥) → (n ≡ 38 → ⊥) → (n ≡ 39 → ⊥) → breaks ≡ syllableLeft sheet (syllableAt n k) xs
+  Late n = (n ≡ 36 → ⊥) → (n ≡ 37 → ⊥) → (n ≡ 38 → ⊥) → (n ≡ 39 → ⊥) → breaks ≡ syllableLeft sheet (syllableNumbered n k) xs
 
   pub late-at : (n : ℕ) → 33 < n → Late n
   late-at n h = by (ltb n 40) refl
@@ -104,12 +105,12 @@ twenty-nine n h l a b c d e f g i =
 abbrev closing : ℕ → Bool
 closing n = eqb n 30 || eqb n 31 || eqb n 36
 
-pub closes-at : (n k : ℕ) → closing n ≡ closes (syllableAt n k)
+pub closes-at : (n k : ℕ) → closing n ≡ closes (syllableNumbered n k)
 closes-at n k = by (ltb n 40) refl
   where
-    by : (b : Bool) → ltb n 40 ≡ b → closing n ≡ closes (syllableAt n k)
+    by : (b : Bool) → ltb n 40 ≡ b → closing n ≡ closes (syllableNumbered n k)
     by true e =
-        each (λ (n : ℕ). closing n ≡ closes (syllableAt n k)) 40 0 n
+        each (λ (n : ℕ). closing n ≡ closes (syllableNumbered n k)) 40 0 n
         (refl & refl & refl & refl & refl & refl & refl & refl & refl & refl & refl & refl & refl & refl & refl & refl & refl & refl & refl & refl & refl & refl & refl & refl & refl & refl & refl & refl & refl & refl & refl & refl & refl & refl & refl & refl & refl & refl & refl & refl & end)
         zero-le
         (omega (arith, ltb-true n 40 e))
@@ -125,19 +126,19 @@ syllable-small w l =
     let size : 12 * l + 11 + 1 - 12 * l ≡ 12 = omega arith in
     rw size (mod-lt (w / 2 ^ (47 - (12 * l + 11))) (omega arith))
 
-read-as : (w l : ℕ) {y n : ℕ} → y ≡ syllableOf w l → n ≡ numberOf (y % 4096) → syllableAt n (y % 4096 / 4) ≡ decodeOf (syllableOf w l)
+read-as : (w l : ℕ) {y n : ℕ} → y ≡ syllableOf w l → n ≡ operatorNumber (y % 4096) → syllableNumbered n (y % 4096 / 4) ≡ decodeOf (syllableOf w l)
 read-as w l {y} {n} e f =
     let s : y % 4096 ≡ syllableOf w l = omega (arith, syllable-small w l) in
-    ap (λ (m : ℕ). syllableAt m (y % 4096 / 4)) f ∙ sym (decode-number (y % 4096)) ∙ ap decodeOf s
+    ap (λ (m : ℕ). syllableNumbered m (y % 4096 / 4)) f ∙ sym (decode-number (y % 4096)) ∙ ap decodeOf s
 
-pub read-at : (core : List ℕ) (m l : ℕ) {w y n : ℕ} → w ≡ getD core m 0 → y ≡ syllableOf w l → n ≡ numberOf (y % 4096) →
-    syllableAt n (y % 4096 / 4) ≡ decodeOf (syllableOf (getD core m 0) l)
+pub read-at : (core : List ℕ) (m l : ℕ) {w y n : ℕ} → w ≡ getD core m 0 → y ≡ syllableOf w l → n ≡ operatorNumber (y % 4096) →
+    syllableNumbered n (y % 4096 / 4) ≡ decodeOf (syllableOf (getD core m 0) l)
 read-at core m l {w} e f g = read-as w l f g ∙ ap (λ (x : ℕ). decodeOf (syllableOf x l)) e
 
 numbers-length : (n y : ℕ) → length (numbersFrom n y) ≡ n
 numbers-length zero y = refl
 numbers-length (suc n) y = ap suc (numbers-length n (suc y))
 
-pub table-length : {table : List ℕ} → table ≡ tableOf → length table ≡ 4096
-unfolding tableOf
+pub table-length : {table : List ℕ} → table ≡ operatorNumbers → length table ≡ 4096
+unfolding operatorNumbers
 table-length e = ap length e ∙ numbers-length 4096 0

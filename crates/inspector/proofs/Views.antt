@@ -7,14 +7,14 @@ use native.Mathlib.Omega.{arith}
 use borrow.Author.Tests.{lt-ltb, le-ltb, eq-eqb, ne-eqb, eqb-true, eqb-false}
 use lib.Dec.{eqb, ltb}
 use lib.ListN.{length, getD}
-use Rattle.inspector.specs.Cells.{cellOf}
+use Rattle.sheet.specs.Sheets.{cellOf}
 use Rattle.inspector.specs.Scan.{Item, literal, number, place, Shape, Left, leaves, breaks, writable, within, calledOver, syllableLeft}
 use Rattle.inspector.specs.Targets.{isEmpty, distance}
-use Rattle.inspector.specs.Forms.{itemOf, shapeOf, Seen, effected, Cells, Knows, Became, Mark, farOf}
+use Rattle.inspector.specs.ForCode.Forms.{itemOf, shapeOf, Seen, effected, Cells, Knows, Became, Mark, farOf}
 use Rattle.inspector.specs.declared.shapes.Effect.{Effect}
 use Rattle.inspector.specs.declared.shapes.Effect.the-variants.{Puts}
 use Rattle.inspector.proofs.Stacks.{seen-shape}
-use Rattle.syllable.specs.Numbers.{syllableAt}
+use Rattle.syllable.specs.ForCode.Numbered.{syllableNumbered}
 
 pub item-literal : (x : ℕ) → x < 1024 → itemOf x ≡ literal x
 unfolding itemOf
@@ -39,9 +39,9 @@ aim-other cells a h e sheet c = e ∙ by (eqb a 1024) ∙ sym (ap (writable shee
 pub turned : (items : List ℕ) {new cells : List ℕ} {room k a b : ℕ} (h n : ℕ) {aim : Bool} (e : Effect) {r : _} → k < 1024 →
     a ≡ getD items (h - 1) 0 → b ≡ getD items (h - 2) 0 →
     ((sheet : List ℕ) → Cells cells sheet → aim ≡ writable sheet (itemOf a)) →
-    ((sheet : List ℕ) (xs : Shape) → Knows sheet k a (getD cells k 0) aim (eqb (getD cells 9 0) 3) → Seen h a b xs → effected e xs ≡ syllableLeft sheet (syllableAt n k) xs) →
+    ((sheet : List ℕ) (xs : Shape) → Knows sheet k a (getD cells k 0) aim (eqb (getD cells 9 0) 3) → Seen h a b xs → effected e xs ≡ syllableLeft sheet (syllableNumbered n k) xs) →
     Became room items new r (effected e (shapeOf items h)) →
-    (sheet : List ℕ) → Cells cells sheet → Became room items new r (syllableLeft sheet (syllableAt n k) (shapeOf items h))
+    (sheet : List ℕ) → Cells cells sheet → Became room items new r (syllableLeft sheet (syllableNumbered n k) (shapeOf items h))
 turned items {room = room} {k = k} h n e l ea eb w f d sheet c =
     record {
       same =

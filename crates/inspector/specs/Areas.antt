@@ -4,7 +4,8 @@ use mathlib.Core.Bool.{Bool, true, false, _&&_, _||_}
 use mathlib.Core.List.{List}
 use lib.Dec.{ltb, leb}
 use lib.ListN.{length}
-use Rattle.inspector.specs.Sheets.{codeOf, codeWordsOf, sOf, roomOf, rOf, tableOf}
+use Rattle.sheet.specs.Sheets.{codeOf, codeWordsOf, sOf, roomOf, rOf, tableOf}
+use Rattle.word.specs.Addresses.{tableStart}
 
 -- The n words from a and the m words from b have a word in common.
 abbrev pub meets : ℕ → ℕ → ℕ → ℕ → Bool
@@ -17,6 +18,6 @@ astray core sheet zero = ltb (length core) (codeOf sheet + codeWordsOf sheet)
 astray core sheet (suc zero) =
     leb (length core) (sOf sheet + roomOf sheet) || meets (sOf sheet + 1) (roomOf sheet) (codeOf sheet) (codeWordsOf sheet)
 astray core sheet (suc (suc i)) =
-    ltb (length core) (64 * rOf sheet + tableOf sheet)
-    || meets (64 * rOf sheet) (tableOf sheet) (codeOf sheet) (codeWordsOf sheet)
-    || meets (64 * rOf sheet) (tableOf sheet) (sOf sheet + 1) (roomOf sheet)
+    ltb (length core) (tableStart (rOf sheet) + tableOf sheet)
+    || meets (tableStart (rOf sheet)) (tableOf sheet) (codeOf sheet) (codeWordsOf sheet)
+    || meets (tableStart (rOf sheet)) (tableOf sheet) (sOf sheet + 1) (roomOf sheet)

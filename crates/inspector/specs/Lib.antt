@@ -1,7 +1,7 @@
-pub mod Sheets
+pub mod Records
 pub mod Areas
 pub mod Cells
 pub mod Scan
 pub mod Targets
 pub mod Verdicts
-pub mod Forms
+pub mod ForCode

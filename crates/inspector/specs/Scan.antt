@@ -4,8 +4,7 @@ use mathlib.Core.Bool.{Bool, true, false, not, _&&_, _||_}
 use mathlib.Core.List.{List, [], _∷_}
 use lib.Dec.{eqb, ltb, leb}
 use lib.ListN.{length, getD}
-use Rattle.inspector.specs.Sheets.{codeOf, codeWordsOf, roomOf}
-use Rattle.inspector.specs.Cells.{cellOf}
+use Rattle.sheet.specs.Sheets.{codeOf, codeWordsOf, roomOf, cellOf}
 use Rattle.syllable.specs.declared.Logic.{Logic as LogicGroup}
 use Rattle.syllable.specs.declared.Logic.the-variants.{Lnd, Lor, Lqv, Lng}
 use Rattle.syllable.specs.declared.Branch.{Branch as BranchGroup}
@@ -15,7 +14,7 @@ use Rattle.syllable.specs.declared.Operator.the-variants.{Arithmetic, Relation,
 use Rattle.syllable.specs.declared.Syllable.{Syllable}
 use Rattle.syllable.specs.declared.Syllable.the-variants.{Litc, Opdc, Desc, Operator as Operates}
 use Rattle.syllable.specs.Decoding.{decodeOf}
-use Rattle.syllable.specs.Places.{syllableOf}
+use Rattle.syllable.specs.Positions.{syllableOf}
 
 -- "items are literal k, number, place"; the top of a shape stands first.
 pub data Item : Type 0 where

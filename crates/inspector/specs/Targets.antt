@@ -3,7 +3,7 @@ use Prim.Native.Nat.{ℕ, suc, _+_, _-_, _*_}
 use mathlib.Core.Bool.{Bool, true, false, not, _&&_, _||_}
 use mathlib.Core.List.{List, [], _∷_}
 use lib.Dec.{ltb, leb}
-use Rattle.inspector.specs.Sheets.{codeOf, codeWordsOf}
+use Rattle.sheet.specs.Sheets.{codeOf, codeWordsOf}
 use Rattle.inspector.specs.Scan.{Item, literal, number, place, Shape, Left, leaves, breaks, syllableAt, shapeAt}
 use Rattle.machine.specs.Outcomes.{Res, on, halt}
 use Rattle.machine.specs.Branches.{landingOf}
@@ -13,7 +13,7 @@ use Rattle.syllable.specs.declared.Operator.{Operator}
 use Rattle.syllable.specs.declared.Operator.the-variants.{Arithmetic, Relation, Logic, Branch, Mop, Mds, Ssp, Ssn, Chs, Top, Xch, Dup, Del, Nop, Lod, Std, Snd, Inx, Mks, Xit, Com, NotBuilt}
 use Rattle.syllable.specs.declared.Syllable.{Syllable}
 use Rattle.syllable.specs.declared.Syllable.the-variants.{Litc, Opdc, Desc, Operator as Operates}
-use Rattle.syllable.specs.Places.{nextOf}
+use Rattle.syllable.specs.Positions.{nextOf}
 
 abbrev pub isEmpty : Left → Bool
 isEmpty (leaves []) = true

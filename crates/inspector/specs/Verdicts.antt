@@ -3,12 +3,13 @@ use Prim.Native.Nat.{ℕ, zero, suc, _*_}
 use mathlib.Core.Bool.{Bool, true, false, not}
 use mathlib.Core.List.{List}
 use Rattle.inspector.specs.declared.verdict.Verdict.{Verdict}
-use Rattle.inspector.specs.Sheets.{entries, codeWordsOf, tableOf, sheetFits, recordGood}
+use Rattle.sheet.specs.Sheets.{entries, codeWordsOf, tableOf}
 use Rattle.inspector.specs.Areas.{astray}
 use Rattle.inspector.specs.Cells.{unfit}
 use Rattle.inspector.specs.Scan.{breaksAt}
 use Rattle.inspector.specs.Targets.{missesTarget}
 use Rattle.word.specs.Core.{lengthFits, wordsFit}
+use Rattle.inspector.specs.Records.{sheetFits, recordGood}
 
 -- The lowest place from i on, of n, at which a rule is broken.
 pub data Found : Type 0 where

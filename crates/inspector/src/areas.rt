@@ -9,7 +9,7 @@ ghost use lib.ListN.{length};
 ghost use Prim.Native.Nat.{_≤_};
 ghost use Rattle.inspector.specs.Areas.{meets as meetsOf, astray as astrayOf};
 ghost use Rattle.inspector.specs.Verdicts.{lowest};
-ghost use Rattle.inspector.specs.Forms.{foundOf};
+ghost use Rattle.inspector.specs.ForCode.Forms.{foundOf};
 
 // The n words from a and the m words from b have a word in common.
 pub fn meets(a: u32, n: u16, b: u32, m: u16) -> bool

@@ -7,10 +7,10 @@ ghost use mathlib.Core.Path.{_≡_};
 ghost use mathlib.Core.List.{List};
 ghost use Prim.Native.Nat.{ℕ, _<_};
 ghost use lib.Dec.{eqb};
-ghost use Rattle.inspector.specs.Cells.{cellOf};
+ghost use Rattle.sheet.specs.Sheets.{cellOf};
 ghost use Rattle.inspector.specs.Scan.{Shape, value, writable, calledOver, twoValues, oneValue, tested as testedOf, doubled as doubledOf, deleted as deletedOf, loaded as loadedOf, stored as storedOf, branched as branchedOf, branchedIf, communicated as communicatedOf, syllableLeft};
-ghost use Rattle.inspector.specs.Forms.{itemOf, Seen, effected, whenOf, Knows};
-ghost use Rattle.syllable.specs.Numbers.{syllableAt};
+ghost use Rattle.inspector.specs.ForCode.Forms.{itemOf, Seen, effected, whenOf, Knows};
+ghost use Rattle.syllable.specs.ForCode.Numbered.{syllableNumbered};
 
 // "a literal or number"
 fn is_value(x: u16) -> bool
@@ -117,7 +117,7 @@ fn communicated(h: u16, a: u16, nine: bool) -> Effect
 // place to load or store at, `nine` that cell 9 is a number cell.
 pub fn effect(n: u8, k: u16, cell: u8, aim: bool, nine: bool, h: u16, a: u16, b: u16) -> Effect
     requires { ⌜ k < 1024 ⌝ }
-    ensures { λ r. ⌜ ((sheet : List ℕ) (xs : Shape) → Knows sheet k a cell aim nine → Seen h a b xs → effected r xs ≡ syllableLeft sheet (syllableAt n k) xs) ⌝ }
+    ensures { λ r. ⌜ ((sheet : List ℕ) (xs : Shape) → Knows sheet k a cell aim nine → Seen h a b xs → effected r xs ≡ syllableLeft sheet (syllableNumbered n k) xs) ⌝ }
 {
     match n {
         1..=14 => two_values(h, a, b),

@@ -19,13 +19,13 @@ use verdict::Find;
 pub use verdict::Verdict;
 ghost use mathlib.Core.Path.{_≡_};
 ghost use mathlib.Core.Bool.{true};
-ghost use Rattle.inspector.specs.Sheets.{sheetFits};
+ghost use Rattle.inspector.specs.Records.{sheetFits};
 ghost use Rattle.inspector.specs.Verdicts.{verdictOf};
-ghost use Rattle.inspector.specs.Forms.{Cells, Ranged, flowOf, insideOf, recordsOf};
+ghost use Rattle.inspector.specs.ForCode.Forms.{Cells, SheetRanged, flowOf, cellsOnOf, recordsOf};
 
 // The rules 34 and 35.
 fn flow(core: &[u64], sheet: &[u8], cells: &[u8]) -> Verdict
-    requires { ⌜ Ranged (now sheet) × Cells (now cells) (now sheet) ⌝ }
+    requires { ⌜ SheetRanged (now sheet) × Cells (now cells) (now sheet) ⌝ }
     ensures { λ r. ⌜ r ≡ flowOf (now (core .entry)) (now (sheet .entry)) ⌝ }
 {
     let table = syllable::numbers();
@@ -54,8 +54,8 @@ fn flow(core: &[u64], sheet: &[u8], cells: &[u8]) -> Verdict
 
 // The rules from 33 on.
 fn inside(core: &[u64], sheet: &[u8]) -> Verdict
-    requires { ⌜ Ranged (now sheet) ⌝ }
-    ensures { λ r. ⌜ r ≡ insideOf (now (core .entry)) (now (sheet .entry)) ⌝ }
+    requires { ⌜ SheetRanged (now sheet) ⌝ }
+    ensures { λ r. ⌜ r ≡ cellsOnOf (now (core .entry)) (now (sheet .entry)) ⌝ }
 {
     let mut cells = [0u8; 1024];
     fill(&mut cells, sheet);

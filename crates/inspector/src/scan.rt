@@ -17,10 +17,11 @@ ghost use Prim.Native.Nat.{ℕ, _+_, _/_, _%_, _≤_, _<_};
 ghost use lib.Dec.{eqb};
 ghost use lib.ListN.{length, getD};
 ghost use Rattle.inspector.specs.Scan.{leaves, writable as writableOf, syllableLeft, closes as closesOf};
-ghost use Rattle.inspector.specs.Forms.{itemOf, shapeOf, Cells, Became, Mark, Ready, Scans};
+ghost use Rattle.inspector.specs.ForCode.Forms.{itemOf, shapeOf, Cells, Became, Mark, Ready, Scans};
 ghost use Rattle.syllable.specs.Decoding.{decodeOf};
-ghost use Rattle.syllable.specs.Numbers.{tableOf, numberOf, syllableAt};
-ghost use Rattle.syllable.specs.Places.{syllableOf};
+ghost use Rattle.syllable.specs.Numbers.{operatorNumbers, operatorNumber};
+ghost use Rattle.syllable.specs.Positions.{syllableOf};
+ghost use Rattle.syllable.specs.ForCode.Numbered.{syllableNumbered};
 
 // A syllable by its operator number n and its number k.
 pub struct Numbered {
@@ -30,8 +31,8 @@ pub struct Numbered {
 
 // The operator number of a syllable, from the table that is lent.
 fn number_of(table: &[u8], y: u16) -> u8
-    requires { ⌜ now table ≡ tableOf ⌝ }
-    ensures { λ r. ⌜ r ≡ numberOf (y % 4096) ⌝ }
+    requires { ⌜ now table ≡ operatorNumbers ⌝ }
+    ensures { λ r. ⌜ r ≡ operatorNumber (y % 4096) ⌝ }
 {
     let i = (y % 4096) as usize;
     table[i]
@@ -39,9 +40,9 @@ fn number_of(table: &[u8], y: u16) -> u8
 
 // The i-th syllable of the code.
 pub fn read(core: &[u64], table: &[u8], code: u16, i: u16) -> Numbered
-    requires { ⌜ now table ≡ tableOf ⌝ }
+    requires { ⌜ now table ≡ operatorNumbers ⌝ }
     ensures small { λ r. ⌜ r .k < 1024 ⌝ }
-    ensures { λ r. ⌜ syllableAt (r .n) (r .k) ≡ decodeOf (syllableOf (getD (now (core .entry)) (code + i / 4) 0) (i % 4)) ⌝ }
+    ensures { λ r. ⌜ syllableNumbered (r .n) (r .k) ≡ decodeOf (syllableOf (getD (now (core .entry)) (code + i / 4) 0) (i % 4)) ⌝ }
 {
     let w = word_at(core, code as usize + (i / 4) as usize);
     let y = syllable::syllable_at(w, (i % 4) as u8);
@@ -64,7 +65,7 @@ fn writable(cells: &[u8], a: u16) -> bool
 // What a syllable makes of the shape.
 fn turn(items: &mut [u16], h: u16, room: u16, cells: &[u8], n: u8, k: u16) -> Scanned
     requires { ⌜ (room ≤ length (now items)) × (length (now cells) ≡ 1024) × (k < 1024) ⌝ }
-    ensures { λ r. ⌜ ((sheet : List ℕ) → Cells (now (cells .entry)) sheet → Became room (now (items .entry)) (now (items .exit)) r (syllableLeft sheet (syllableAt n k) (shapeOf (now (items .entry)) h))) ⌝ }
+    ensures { λ r. ⌜ ((sheet : List ℕ) → Cells (now (cells .entry)) sheet → Became room (now (items .entry)) (now (items .exit)) r (syllableLeft sheet (syllableNumbered n k) (shapeOf (now (items .entry)) h))) ⌝ }
 {
     let a = below(&items[..], h, 1);
     let b = below(&items[..], h, 2);
@@ -92,14 +93,14 @@ fn mark_of(items: &[u16], h: u16) -> u16
 
 // "The last syllable is COM, BFW or BBW."
 fn closes(n: u8) -> bool
-    ensures { λ r. ⌜ ((k : ℕ) → r ≡ closesOf (syllableAt n k)) ⌝ }
+    ensures { λ r. ⌜ ((k : ℕ) → r ≡ closesOf (syllableNumbered n k)) ⌝ }
 {
     either(either(n == 30, n == 31), n == 36)
 }
 
 // The last of so many syllables, and no closing one.
 fn unclosed(i: u16, words: u16, n: u8) -> bool
-    ensures { λ r. ⌜ ((k : ℕ) → r ≡ (eqb i words && not (closesOf (syllableAt n k)))) ⌝ }
+    ensures { λ r. ⌜ ((k : ℕ) → r ≡ (eqb i words && not (closesOf (syllableNumbered n k)))) ⌝ }
 {
     both(i == words, negated(closes(n)))
 }

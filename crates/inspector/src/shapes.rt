@@ -3,7 +3,7 @@
 ghost use mathlib.Core.Path.{_≡_};
 ghost use Prim.Native.Nat.{_-_, _≤_};
 ghost use lib.ListN.{length, getD};
-ghost use Rattle.inspector.specs.Forms.{shapeOf, effected, Became};
+ghost use Rattle.inspector.specs.ForCode.Forms.{shapeOf, effected, Became};
 ghost use Rattle.inspector.specs.declared.shapes.Effect.the-variants.{Drops, Puts, Swaps};
 
 pub const NUMBER: u16 = 1024;

@@ -6,9 +6,10 @@ ghost use mathlib.Core.Path.{_≡_};
 ghost use mathlib.Core.Bool.{not};
 ghost use Prim.Native.Nat.{ℕ, _-_, _≤_};
 ghost use lib.ListN.{getD};
-ghost use Rattle.inspector.specs.Sheets.{entryAt, entries, tableOf, ranged as rangedOf, cellsGood, floorOf, recordGood, sheetFits};
+ghost use Rattle.sheet.specs.Sheets.{entryAt, entries, tableOf};
 ghost use Rattle.inspector.specs.Verdicts.{lowest};
-ghost use Rattle.inspector.specs.Forms.{foundOf};
+ghost use Rattle.inspector.specs.ForCode.Forms.{foundOf};
+ghost use Rattle.inspector.specs.Records.{ranged as rangedOf, cellsGood, floorOf, recordGood, sheetFits};
 
 // The byte at a place, and 0 past the end.
 fn byte(sheet: &[u8], at: usize) -> u8

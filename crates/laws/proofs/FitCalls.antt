@@ -3,7 +3,7 @@ use Prim.Native.Nat.{ℕ, _<_}
 use mathlib.Core.Bool.{Bool, true, false, not, _&&_}
 use native.Mathlib.Omega.{arith}
 use lib.Dec.{eqb}
-use Rattle.machine.specs.Outcomes.{if_then_else_}
+use Rattle.word.specs.Choices.{if_then_else_}
 use Rattle.machine.specs.States.{State}
 use Rattle.machine.specs.Memory.{kAddressOf}
 use Rattle.machine.specs.Calls.{indexOf, indexedOf, loadOf, dataCallOf, markOf, enterOf, programCallOf, leftOf, callAs, callOf, fetchedOf, callKOf}
@@ -12,8 +12,8 @@ use Rattle.word.specs.Kinds.{kindOf}
 use Rattle.word.specs.declared.kinds.Kind.{Kind}
 use Rattle.word.specs.declared.kinds.Kind.the-variants.{Operand, Data, Program, Control}
 use Rattle.machine.proofs.Sizes.{goes, stops, gives-if, gives-bind, any}
-use Rattle.laws.proofs.Fit.{Word, Keeps}
-use Rattle.laws.proofs.FitSetters.{word-a, fill-a, empty-a, empty-b, with-f, with-place, with-flags}
+use Rattle.laws.specs.Fit.{Word, Keeps}
+use Rattle.laws.proofs.FitSetters.{word-a, fill-a, empty-a, empty-b, with-f, with-cl, with-salf, with-msff}
 use Rattle.laws.proofs.FitStack.{Goes, read-fit, push-fit, push-b-fit, a-empty-fit, b-full-fit}
 use Rattle.laws.proofs.FitWords.{size-set, address-set, data-word, mscw-word, rcw-word}
 
@@ -51,7 +51,7 @@ enter-fit desc st k d =
     gives-bind (push-b-fit _ (empty-a k))
     (λ u i. gives-bind (mark-fit (argumentOf d) u i)
     (λ v j. gives-bind (push-fit v j _ (rcw-word desc (v .regs .l) (v .regs .f) (v .regs .c)))
-    (λ w h. goes (with-flags (with-place (with-f h _ (chosen (argumentOf d) (w .regs .s) (fFieldOf d) (h .fit .regs .s) (omega arith))) (addressOf d) 0 (omega arith) (omega arith)) true false))))
+    (λ w h. goes (with-msff (with-salf (with-cl (with-f h _ (chosen (argumentOf d) (w .regs .s) (fFieldOf d) (h .fit .regs .s) (omega arith))) (addressOf d) 0 (omega arith) (omega arith)) true) false))))
 
 program-call-fit : {o : State} (desc : Bool) (st : State) → Keeps o st → (d : ℕ) → Goes o (programCallOf desc st d)
 unfolding programCallOf

@@ -9,11 +9,11 @@ use borrow.Author.Tests.{ltb-true, leb-true, eqb-true, lt-ltb, le-leb, eq-eqb}
 use lib.Dec.{ltb}
 use lib.ListN.{length}
 use Rattle.machine.specs.declared.outcome.Registers.{Registers}
-use Rattle.machine.specs.Outcomes.{if_then_else_}
-use Rattle.machine.specs.Shapes.{stateOf}
+use Rattle.word.specs.Choices.{if_then_else_}
+use Rattle.machine.specs.States.{stateOf}
 use Rattle.machine.specs.Steps.{holdsWord, registersFit, refusalOf}
 use Rattle.word.specs.Core.{lengthFits, wordsFit}
-use Rattle.laws.proofs.Fit.{Word, Words, Holds, Ranged, Fit}
+use Rattle.laws.specs.Fit.{Word, Words, Holds, InRange, Fit}
 
 -- A test that is on exactly when a fact holds.
 abbrev Tells : Bool → Type 0 → Type 0
@@ -46,7 +46,7 @@ unfolding wordsFit
 tells-words [] = (λ _ i. omega arith, λ _. refl)
 tells-words (w ∷ ws) = Iff·trans (tells-and (tells-lt w (2 ^ 48)) (tells-words ws)) (words-cons w ws)
 
-tells-registers : (g : Registers) → Tells (registersFit g) (Ranged g)
+tells-registers : (g : Registers) → Tells (registersFit g) (InRange g)
 unfolding registersFit
 tells-registers g =
     Iff·trans

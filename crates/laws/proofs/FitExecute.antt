@@ -20,11 +20,11 @@ use Rattle.syllable.specs.declared.Operator.the-variants.{Arithmetic, Relation,
 use Rattle.syllable.specs.declared.Syllable.{Syllable}
 use Rattle.syllable.specs.declared.Syllable.the-variants.{Litc, Opdc, Desc, Operator as Operates}
 use Rattle.syllable.specs.Encoding.{Proper, litc}
-use Rattle.syllable.specs.Places.{syllableOf}
+use Rattle.syllable.specs.Positions.{syllableOf}
 use Rattle.syllable.proofs.RoundTrip.{decode-proper}
 use Rattle.machine.proofs.Sizes.{Gives, goes, stops}
-use Rattle.laws.proofs.Fit.{Fit, Keeps, After}
-use Rattle.laws.proofs.FitSetters.{with-place}
+use Rattle.laws.specs.Fit.{Fit, Keeps, After}
+use Rattle.laws.proofs.FitSetters.{with-cl}
 use Rattle.laws.proofs.FitStack.{Goes}
 use Rattle.laws.proofs.FitWords.{flag-set, sign-set, body-set, reckon-word, relate-word}
 use Rattle.laws.proofs.FitOperators.{two-fit, two-words-fit, one-word-fit, top-flag-fit, xch-fit, dup-fit, del-fit, inx-fit, litc-fit, lod-fit, snd-fit, std-fit, com-fit, always-fit, if-off-fit}
@@ -95,7 +95,7 @@ twelve-bits w l =
     subst (λ (n : ℕ). w / 2 ^ (47 - (12 * l + 11)) % 2 ^ (12 * l + 11 + 1 - 12 * l) < 2 ^ n) e (mod-lt _ (pow-pos (12 * l + 11 + 1 - 12 * l)))
 
 advanced-fit : {o : State} (st : State) → Keeps o st → Keeps o (advancedOf st)
-advanced-fit st k = with-place k _ _ (omega arith) (omega arith)
+advanced-fit st k = with-cl k _ _ (omega arith) (omega arith)
 
 fetched-by-fit : {o : State} (w : Res ℕ) (st : State) → Keeps o st → After (Keeps o) (fetchedBy w st)
 fetched-by-fit (on w) st k = perform-fit (st .regs .c) _ (decode-proper (syllableOf w (st .regs .l)) (twelve-bits w (st .regs .l))) _ (advanced-fit st k)

@@ -6,8 +6,8 @@ use Rattle.machine.specs.States.{State}
 use Rattle.machine.specs.Marks.{alsoOf, mksOf, controlOf, markAtOf, chainOf, restoreOf, leaveOf, xitOf}
 use Rattle.word.specs.Layout.{fFieldOf, mscwROf, mscwMsffOf, mscwSalfOf, rcwCOf, rcwLOf}
 use Rattle.machine.proofs.Sizes.{Gives, goes, stops, gives-if, gives-bind, any}
-use Rattle.laws.proofs.Fit.{Word, Keeps}
-use Rattle.laws.proofs.FitSetters.{empty-a, empty-b, with-s, with-f, with-place, with-r, with-flags}
+use Rattle.laws.specs.Fit.{Word, Keeps}
+use Rattle.laws.proofs.FitSetters.{empty-a, empty-b, with-s, with-f, with-cl, with-r, with-salf, with-msff}
 use Rattle.laws.proofs.FitStack.{Goes, read-fit, store-of-fit, push-fit, push-a-fit, push-b-fit}
 use Rattle.laws.proofs.FitWords.{mscw-word}
 
@@ -22,7 +22,7 @@ mks-fit st k =
     gives-bind (push-b-fit st k)
     (λ u i. gives-bind (push-a-fit u i)
     (λ v j. gives-bind (push-fit v j _ m)
-    (λ w h. gives-bind (also-fit w h _ m) (λ x e. goes (with-flags (with-f e (x .regs .s) (e .fit .regs .s)) (x .regs .salf) true)))))
+    (λ w h. gives-bind (also-fit w h _ m) (λ x e. goes (with-msff (with-f e (x .regs .s) (e .fit .regs .s)) true)))))
 
 -- Each register is given by a field of its own width.
 leave-fit : {o : State} (st : State) → Keeps o st → Goes o (leaveOf st)
@@ -32,7 +32,7 @@ leave-fit st k =
     (λ rcw _. gives-bind (any (markAtOf (st .core) (fFieldOf rcw)))
     (λ mscw _. goes
     (with-s
-    (with-f (with-flags (with-r (with-place (empty-b (empty-a k)) (rcwCOf rcw) (rcwLOf rcw) (omega arith) (omega arith)) (mscwROf mscw) (omega arith)) (mscwSalfOf mscw) (mscwMsffOf mscw)) (fFieldOf mscw) (omega arith))
+    (with-f (with-salf (with-msff (with-r (with-cl (empty-b (empty-a k)) (rcwCOf rcw) (rcwLOf rcw) (omega arith) (omega arith)) (mscwROf mscw) (omega arith)) (mscwMsffOf mscw)) (mscwSalfOf mscw)) (fFieldOf mscw) (omega arith))
     (fFieldOf rcw - 1) (omega arith))))
 
 chain-word : {o : State} (reads : ℕ) (st : State) → Keeps o st → (m : ℕ) → Gives Word (chainOf reads (st .core) m)

@@ -14,8 +14,8 @@ use Rattle.machine.specs.Branches.{landingOf, jumpOf, alwaysOf, ifOffOf}
 use Rattle.word.specs.Field.{field, bit}
 use Rattle.word.specs.Layout.{flagOf, presenceOf, addressOf}
 use Rattle.machine.proofs.Sizes.{Gives, goes, stops, gives-if, gives-bind, any}
-use Rattle.laws.proofs.Fit.{Word, Keeps}
-use Rattle.laws.proofs.FitSetters.{word-a, word-b, fill-a, empty-a, fill-b, empty-b, with-place, store-fit}
+use Rattle.laws.specs.Fit.{Word, Keeps}
+use Rattle.laws.proofs.FitSetters.{word-a, word-b, fill-a, empty-a, fill-b, empty-b, with-cl, store-fit}
 use Rattle.laws.proofs.FitStack.{Goes, store-of-fit, push-b-fit, a-empty-fit, a-full-fit, b-full-fit, both-full-fit}
 use Rattle.laws.proofs.FitWords.{address-set, one-word}
 
@@ -99,9 +99,9 @@ module _ {o : State} (back : Bool) (st : State) (k : Keeps o st) where
   unfolding jumpOf
   jump-fit w =
       gives-if (flagOf w)
-      (λ _. gives-if (presenceOf w) (λ _. goes (with-place k (addressOf w) 0 (omega arith) (omega arith))) (λ _. stops))
+      (λ _. gives-if (presenceOf w) (λ _. goes (with-cl k (addressOf w) 0 (omega arith) (omega arith))) (λ _. stops))
       (λ _. gives-bind (landing-in back (4 * st .regs .c + st .regs .l) (field w 36 47) (omega (arith, k .fit .regs .c, k .fit .regs .l)))
-      (λ n h. goes (with-place k (n / 4) (n % 4) (omega arith) (omega arith))))
+      (λ n h. goes (with-cl k (n / 4) (n % 4) (omega arith) (omega arith))))
 
 module _ {o : State} (back : Bool) (st : State) (k : Keeps o st) where
   pub always-fit : Goes o (alwaysOf back st)

@@ -6,19 +6,19 @@ use Prim.Native.Nat.{ℕ, zero, suc, _<_}
 use native.Mathlib.Omega.{arith}
 use lib.ListN.{length, getD, set, length-set}
 use Rattle.machine.specs.declared.outcome.Registers.{Registers}
-use Rattle.machine.specs.States.{State, setA, setB, withRegs, fillA, emptyA, fillB, emptyB, withS, withF, withPlace, withR, withFlags, store}
-use Rattle.laws.proofs.Fit.{Word, Words, Holds, Ranged, Keeps}
+use Rattle.machine.specs.States.{State, setA, setB, withRegs, fillA, emptyA, fillB, emptyB, withS, withF, withCL, withR, withSalf, withMsff, store}
+use Rattle.laws.specs.Fit.{Word, Words, Holds, InRange, Keeps}
 
 -- Full or empty, a register holds a word.
 word-of : (full : Bool) (x : ℕ) → Holds full x → Word x
 word-of true x h = h
 word-of false x h = omega arith
 
-with-regs : {o st : State} {g : Registers} → Keeps o st → Ranged g → Keeps o (withRegs st g)
+with-regs : {o st : State} {g : Registers} → Keeps o st → InRange g → Keeps o (withRegs st g)
 with-regs k h = record { fit = record { some = k .fit .some; most = k .fit .most; words = k .fit .words; regs = h }; size = k .size }
 
 module _ {o st : State} (k : Keeps o st) where
-  was : Ranged (st .regs)
+  was : InRange (st .regs)
   was = k .fit .regs
 
   pub word-a : Word (st .regs .a)
@@ -51,14 +51,17 @@ module _ {o st : State} (k : Keeps o st) where
   pub with-f : (x : ℕ) → x < 32768 → Keeps o (withF st x)
   with-f x h = with-regs k (record { a = was .a; b = was .b; s = was .s; f = h; c = was .c; r = was .r; l = was .l })
 
-  pub with-place : (c l : ℕ) → c < 32768 → l < 4 → Keeps o (withPlace st c l)
-  with-place c l h i = with-regs k (record { a = was .a; b = was .b; s = was .s; f = was .f; c = h; r = was .r; l = i })
+  pub with-cl : (c l : ℕ) → c < 32768 → l < 4 → Keeps o (withCL st c l)
+  with-cl c l h i = with-regs k (record { a = was .a; b = was .b; s = was .s; f = was .f; c = h; r = was .r; l = i })
 
   pub with-r : (x : ℕ) → x < 512 → Keeps o (withR st x)
   with-r x h = with-regs k (record { a = was .a; b = was .b; s = was .s; f = was .f; c = was .c; r = h; l = was .l })
 
-  pub with-flags : (salf msff : Bool) → Keeps o (withFlags st salf msff)
-  with-flags salf msff = with-regs k (record { a = was .a; b = was .b; s = was .s; f = was .f; c = was .c; r = was .r; l = was .l })
+  pub with-salf : (x : Bool) → Keeps o (withSalf st x)
+  with-salf x = with-regs k (record { a = was .a; b = was .b; s = was .s; f = was .f; c = was .c; r = was .r; l = was .l })
+
+  pub with-msff : (x : Bool) → Keeps o (withMsff st x)
+  with-msff x = with-regs k (record { a = was .a; b = was .b; s = was .s; f = was .f; c = was .c; r = was .r; l = was .l })
 
 -- A word that is written leaves every word a word.
 words-set : (core : List ℕ) (m w i : ℕ) → Word w → Words core → Word (getD (set core m w) i 0)

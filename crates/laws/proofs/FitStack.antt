@@ -8,7 +8,7 @@ use Rattle.machine.specs.States.{State}
 use Rattle.machine.specs.Memory.{readOf, storeOf}
 use Rattle.machine.specs.Stack.{pushOf, topOf, down, pushBOf, pushAOf, aEmptyOf, aFullOf, bFullOf, bothFullOf}
 use Rattle.machine.proofs.Sizes.{Gives, goes, stops, gives-if, gives-bind, slot-gives}
-use Rattle.laws.proofs.Fit.{Word, Keeps}
+use Rattle.laws.specs.Fit.{Word, Keeps}
 use Rattle.laws.proofs.FitSetters.{word-a, word-b, fill-a, empty-a, fill-b, empty-b, with-s, store-fit}
 
 -- Going on, a part of a syllable that began at o keeps it fit.

@@ -8,12 +8,11 @@ use borrow.Author.Tests.{eq-eqb}
 use lib.Dec.{eqb}
 use lib.ListN.{length}
 use Rattle.machine.specs.declared.outcome.Registers.{Registers}
-use Rattle.machine.specs.Outcomes.{if_then_else_}
-use Rattle.machine.specs.States.{State}
-use Rattle.machine.specs.Shapes.{stateOf}
+use Rattle.word.specs.Choices.{if_then_else_}
+use Rattle.machine.specs.States.{State, stateOf}
 use Rattle.machine.specs.Steps.{Ended, next, communicated, stopped, executeOf, refusalOf, Stepped, endedAs, stepOf}
 use Rattle.word.proofs.Sole.{sole}
-use Rattle.laws.proofs.Fit.{Fit, Keeps, After}
+use Rattle.laws.specs.Fit.{Fit, Keeps, After}
 use Rattle.laws.proofs.FitExecute.{execute-fit}
 use Rattle.laws.proofs.FitChecks.{fit-refusal}
 

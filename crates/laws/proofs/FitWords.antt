@@ -6,7 +6,7 @@ use lib.Dec.{eqb, ltb}
 use lib.IntN.{ℤ, natAbs}
 use Rattle.machine.specs.Arithmetics.{madeAs, givenOf, dividedOf, reckonOf, relateOf, holds}
 use Rattle.machine.proofs.Sizes.{Gives, goes, stops, gives-if}
-use Rattle.laws.proofs.Fit.{Word}
+use Rattle.laws.specs.Fit.{Word}
 use Rattle.word.specs.Field.{placed, withField, oneOf}
 use Rattle.word.specs.Layout.{dataOf, mscwOf, rcwOf}
 use Rattle.word.specs.Numbers.{operandOf, madeBy, negative}

@@ -1,5 +1,4 @@
 pub mod TrialSums
-pub mod Fit
 pub mod FitSetters
 pub mod FitStack
 pub mod FitWords

@@ -12,9 +12,9 @@ use Rattle.word.proofs.Sole.{sole}
 use Rattle.machine.specs.declared.outcome.Cause.{Cause}
 use Rattle.machine.specs.declared.outcome.Cause.the-variants.{Address, Overflow, Presence, Flag, Index, Unbuilt, Unwhole, ZeroDivisor}
 use Rattle.machine.specs.declared.outcome.Registers.{Registers}
-use Rattle.machine.specs.Outcomes.{if_then_else_, numberOf}
-use Rattle.machine.specs.States.{State}
-use Rattle.machine.specs.Shapes.{stateOf}
+use Rattle.machine.specs.Outcomes.{numberOf}
+use Rattle.machine.specs.States.{State, stateOf}
+use Rattle.word.specs.Choices.{if_then_else_}
 use Rattle.machine.specs.Steps.{Ended, next, communicated, stopped, executeOf, refusalOf, endedAs, Stepped, stepOf}
 use Rattle.machine.specs.Runs.{Run, endsAt, counted, goesOn, runFrom, runOf}
 use Rattle.laws.specs.Runs.{goesOnFor}

@@ -1,2 +1,3 @@
 pub mod Trials
 pub mod Runs
+pub mod Fit

@@ -2,7 +2,7 @@
 use Prim.Native.Nat.{ℕ}
 use mathlib.Core.Bool.{true, false}
 use lib.Dec.{eqb}
-use Rattle.machine.specs.Shapes.{stateOf}
+use Rattle.machine.specs.States.{stateOf}
 use Rattle.machine.specs.Runs.{Run, counted, runFrom}
 
 -- A run that spent its budget goes on for m syllables more; one that stopped stays as it is.

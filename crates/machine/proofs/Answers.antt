@@ -5,9 +5,8 @@ use mathlib.Core.List.{List}
 use Prim.Native.Nat.{ℕ}
 use Rattle.machine.specs.declared.outcome.Registers.{Registers}
 use Rattle.machine.specs.Outcomes.{Res, on}
-use Rattle.machine.specs.States.{State}
+use Rattle.machine.specs.States.{State, stateOf}
 use Rattle.machine.specs.Calls.{callAs, callOf}
-use Rattle.machine.specs.Shapes.{stateOf}
 use Rattle.word.specs.Kinds.{kindOf}
 use Rattle.word.specs.declared.kinds.Kind.{Kind}
 

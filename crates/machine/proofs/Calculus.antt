@@ -8,9 +8,10 @@ use Rattle.machine.specs.declared.outcome.Cause.{Cause}
 use Rattle.machine.specs.declared.outcome.Registers.{Registers}
 use Rattle.machine.specs.declared.outcome.Went.{Went}
 use Rattle.machine.specs.declared.outcome.Went.the-variants.{On, Stop}
-use Rattle.machine.specs.Outcomes.{Res, on, halt, _>>=_, if_then_else_}
-use Rattle.machine.specs.States.{State}
-use Rattle.machine.specs.Shapes.{stateOf, wentOf, keeps, Does}
+use Rattle.machine.specs.Outcomes.{Res, on, halt, _>>=_}
+use Rattle.machine.specs.States.{State, stateOf}
+use Rattle.word.specs.Choices.{if_then_else_}
+use Rattle.machine.specs.ForCode.Answers.{wentOf, keeps, Does}
 
 -- What a callee's definition equals, once its answer is known.
 pub known : {R A : Type 0} (f : R → A) {r c : R} {o : A} → f r ≡ o → r ≡ c → o ≡ f c

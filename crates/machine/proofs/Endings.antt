@@ -16,23 +16,25 @@ use Rattle.machine.specs.declared.outcome.Went.{Went}
 use Rattle.machine.specs.declared.outcome.Went.the-variants.{On, Stop}
 use Rattle.machine.specs.declared.outcome.Done.{Done}
 use Rattle.machine.specs.declared.outcome.Done.the-variants.{Next, Com, Stop as DoneStop}
-use Rattle.machine.specs.Outcomes.{Res, on, halt, if_then_else_, numberOf}
-use Rattle.machine.specs.States.{State, setPlace}
+use Rattle.machine.specs.Outcomes.{Res, on, halt, numberOf}
+use Rattle.machine.specs.States.{State, setCL, stateOf}
 use Rattle.machine.specs.Memory.{readOf}
 use Rattle.machine.specs.Calls.{callKOf}
-use Rattle.machine.specs.Steps.{Ended, next, communicated, stopped, plain, last, operateOf, performOf, advancedOf, fetchedBy, executeOf, registersFit, refusalOf, Stepped, endedAs, stepOf}
-use Rattle.machine.specs.Shapes.{stateOf, wentOf, doneOf, keeps, leaves, Does, Ends, plainAs, lastAs, answered}
+use Rattle.machine.specs.Steps.{Ended, next, communicated, stopped, plain, last, operateOf, performOf, advancedOf, fetchedBy, executeOf, registersFit, refusalOf, Stepped, endedAs, stepOf, answered}
+use Rattle.word.specs.Choices.{if_then_else_}
 use Rattle.word.specs.Core.{lengthFits, wordsFit}
 use Rattle.syllable.specs.declared.Operator.{Operator}
 use Rattle.syllable.specs.declared.Operator.the-variants.{NotBuilt}
-use Rattle.syllable.specs.declared.Place.{Place}
+use Rattle.syllable.specs.declared.Position.{Position}
 use Rattle.syllable.specs.declared.Syllable.the-variants.{Operator as Operates}
 use Rattle.syllable.specs.Codes.{listed}
 use Rattle.syllable.specs.Decoding.{decodeOf}
-use Rattle.syllable.specs.Numbers.{tableOf, numbersFrom, numberOf as numberAt, operatorFrom, operatorAt, syllableAt}
-use Rattle.syllable.specs.Places.{syllableOf, advanceOf}
+use Rattle.syllable.specs.Numbers.{operatorNumbers, numbersFrom, operatorNumber as numberAt}
+use Rattle.syllable.specs.Positions.{syllableOf, advanceOf}
 use Rattle.syllable.proofs.Entries.{entry}
 use Rattle.syllable.proofs.Numbered.{decode-number}
+use Rattle.machine.specs.ForCode.Answers.{wentOf, doneOf, keeps, leaves, Does, Ends, plainAs, lastAs}
+use Rattle.syllable.specs.ForCode.Numbered.{operatorFrom, operatorNumbered, syllableNumbered}
 
 -- ---- an operator: how its parts went is how it ends
 
@@ -65,7 +67,7 @@ ends-as e d = record { same = d .same ∙ e; kept = d .kept }
 
 -- ---- an operator by its number
 
-pub by-number : {core core′ : List ℕ} {r : Done} (here k : ℕ) (st : State) {n m : ℕ} → n ≡ m → Ends core core′ r (operateOf here (operatorAt m k) st) → Ends core core′ r (operateOf here (operatorAt n k) st)
+pub by-number : {core core′ : List ℕ} {r : Done} (here k : ℕ) (st : State) {n m : ℕ} → n ≡ m → Ends core core′ r (operateOf here (operatorNumbered m k) st) → Ends core core′ r (operateOf here (operatorNumbered n k) st)
 by-number here k st e d = rw e d
 
 past-end : (os : List Operator) (i k : ℕ) → length os ≤ i → operatorFrom os i k ≡ NotBuilt k
@@ -73,35 +75,35 @@ past-end [] i k h = refl
 past-end (o ∷ os) zero k h = absurd (not-suc-le-zero h)
 past-end (o ∷ os) (suc i) k h = past-end os i k (le-of-suc-le-suc h)
 
-unbuilt : (n k : ℕ) → 37 ≤ n → operatorAt n k ≡ NotBuilt k
+unbuilt : (n k : ℕ) → 37 ≤ n → operatorNumbered n k ≡ NotBuilt k
 unbuilt zero k h = refl
 unbuilt (suc n) k h = past-end listed n k (omega arith)
 
-pub ends-unbuilt : (core : List ℕ) (here n k : ℕ) (st : State) → 37 ≤ n → Ends core core (DoneStop Unbuilt) (operateOf here (operatorAt n k) st)
+pub ends-unbuilt : (core : List ℕ) (here n k : ℕ) (st : State) → 37 ≤ n → Ends core core (DoneStop Unbuilt) (operateOf here (operatorNumbered n k) st)
 unfolding operateOf
 ends-unbuilt core here n k st h = rw (unbuilt n k h) (record { same = refl; kept = refl })
 
 -- ---- a syllable by its operator number
 
-pub by-syllable : {core core′ : List ℕ} {r : Done} (here k : ℕ) (st : State) {n m : ℕ} → n ≡ m → Ends core core′ r (performOf here (syllableAt m k) st) → Ends core core′ r (performOf here (syllableAt n k) st)
+pub by-syllable : {core core′ : List ℕ} {r : Done} (here k : ℕ) (st : State) {n m : ℕ} → n ≡ m → Ends core core′ r (performOf here (syllableNumbered m k) st) → Ends core core′ r (performOf here (syllableNumbered n k) st)
 by-syllable here k st e d = rw e d
 
-pub by-operator : {core core′ : List ℕ} {r : Done} (here n k : ℕ) (st : State) → (n ≡ 37 → ⊥) → (n ≡ 38 → ⊥) → (n ≡ 39 → ⊥) → Ends core core′ r (operateOf here (operatorAt n k) st) → Ends core core′ r (performOf here (syllableAt n k) st)
+pub by-operator : {core core′ : List ℕ} {r : Done} (here n k : ℕ) (st : State) → (n ≡ 37 → ⊥) → (n ≡ 38 → ⊥) → (n ≡ 39 → ⊥) → Ends core core′ r (operateOf here (operatorNumbered n k) st) → Ends core core′ r (performOf here (syllableNumbered n k) st)
 unfolding performOf
 by-operator here n k st a b c d = rw (ne-eqb n 37 a, ne-eqb n 38 b, ne-eqb n 39 c) d
 
-pub by-call : {core core′ : List ℕ} {r : Done} (here n k : ℕ) (st : State) → (eqb n 38 || eqb n 39) ≡ true → Ends core core′ r (plain (callKOf (eqb n 39) here st k)) → Ends core core′ r (performOf here (syllableAt n k) st)
+pub by-call : {core core′ : List ℕ} {r : Done} (here n k : ℕ) (st : State) → (eqb n 38 || eqb n 39) ≡ true → Ends core core′ r (plain (callKOf (eqb n 39) here st k)) → Ends core core′ r (performOf here (syllableNumbered n k) st)
 unfolding performOf
 by-call {core} {core′} {r} here n k st h d = go (eqb n 38) (eqb n 39) refl refl h
   where
-    go : (x y : Bool) → eqb n 38 ≡ x → eqb n 39 ≡ y → (x || y) ≡ true → Ends core core′ r (performOf here (syllableAt n k) st)
+    go : (x y : Bool) → eqb n 38 ≡ x → eqb n 39 ≡ y → (x || y) ≡ true → Ends core core′ r (performOf here (syllableNumbered n k) st)
     go true y e _ _ = ends-as (as-number (eqb-true n 38 e)) d
       where
-        as-number : n ≡ 38 → plain (callKOf (eqb n 39) here st k) ≡ performOf here (syllableAt n k) st
+        as-number : n ≡ 38 → plain (callKOf (eqb n 39) here st k) ≡ performOf here (syllableNumbered n k) st
         as-number q = rw q
     go false true _ f _ = ends-as (as-number (eqb-true n 39 f)) d
       where
-        as-number : n ≡ 39 → plain (callKOf (eqb n 39) here st k) ≡ performOf here (syllableAt n k) st
+        as-number : n ≡ 39 → plain (callKOf (eqb n 39) here st k) ≡ performOf here (syllableNumbered n k) st
         as-number q = rw q
     go false false _ _ z = absurd (false≢true z)
 
@@ -131,23 +133,23 @@ numbers-length : (n y : ℕ) → length (numbersFrom n y) ≡ n
 numbers-length zero y = refl
 numbers-length (suc n) y = ap suc (numbers-length n (suc y))
 
-pub table-length : (table : List ℕ) → table ≡ tableOf → length table ≡ 4096
-unfolding tableOf
+pub table-length : (table : List ℕ) → table ≡ operatorNumbers → length table ≡ 4096
+unfolding operatorNumbers
 table-length table e = rw e (numbers-length 4096 0)
 
-pub read-by : (y n : ℕ) (table : List ℕ) → y < 4096 → table ≡ tableOf → n ≡ getD table y 0 → syllableAt n (y / 4) ≡ decodeOf y
+pub read-by : (y n : ℕ) (table : List ℕ) → y < 4096 → table ≡ operatorNumbers → n ≡ getD table y 0 → syllableNumbered n (y / 4) ≡ decodeOf y
 read-by y n table h t e =
     let m : y % 4096 ≡ y = omega arith in
-    sym (decode-number y ∙ ap (λ (i : ℕ). syllableAt i (y / 4)) (sym (e ∙ ap (λ (i : ℕ). getD table i 0) (sym m) ∙ entry table y t ∙ ap numberAt m)))
+    sym (decode-number y ∙ ap (λ (i : ℕ). syllableNumbered i (y / 4)) (sym (e ∙ ap (λ (i : ℕ). getD table i 0) (sym m) ∙ entry table y t ∙ ap numberAt m)))
 
-pub fetches : {core core′ : List ℕ} {r : Done} (g : Registers) (w y n : ℕ) (table : List ℕ) (p : Place)
-    → readOf core (g .c) ≡ on w → y ≡ syllableOf w (g .l) → table ≡ tableOf → n ≡ getD table y 0 → p ≡ advanceOf (g .c) (g .l)
-    → Ends core core′ r (performOf (g .c) (syllableAt n (y / 4)) (stateOf core (setPlace g (p .c) (p .l))))
+pub fetches : {core core′ : List ℕ} {r : Done} (g : Registers) (w y n : ℕ) (table : List ℕ) (p : Position)
+    → readOf core (g .c) ≡ on w → y ≡ syllableOf w (g .l) → table ≡ operatorNumbers → n ≡ getD table y 0 → p ≡ advanceOf (g .c) (g .l)
+    → Ends core core′ r (performOf (g .c) (syllableNumbered n (y / 4)) (stateOf core (setCL g (p .c) (p .l))))
     → Ends core core′ r (executeOf (stateOf core g))
 unfolding executeOf
 fetches {core} {core′} {r} g w y n table p e s t i a d =
-    let q : syllableAt n (y / 4) ≡ decodeOf (syllableOf w (g .l)) = read-by y n table (syllable-lt w (g .l) y s) t i ∙ ap decodeOf s in
-    rw e (subst (λ (x : Place). Ends core core′ r (performOf (g .c) (decodeOf (syllableOf w (g .l))) (stateOf core (setPlace g (x .c) (x .l))))) a (rw q at d))
+    let q : syllableNumbered n (y / 4) ≡ decodeOf (syllableOf w (g .l)) = read-by y n table (syllable-lt w (g .l) y s) t i ∙ ap decodeOf s in
+    rw e (subst (λ (x : Position). Ends core core′ r (performOf (g .c) (decodeOf (syllableOf w (g .l))) (stateOf core (setCL g (x .c) (x .l))))) a (rw q at d))
 
 -- ---- the step
 

@@ -5,15 +5,16 @@ use mathlib.Core.List.{List}
 use Prim.Native.Nat.{ℕ}
 use lib.ListN.{length}
 use Rattle.machine.specs.declared.outcome.Registers.{Registers}
-use Rattle.machine.specs.Outcomes.{Res, on, _>>=_, if_then_else_}
-use Rattle.machine.specs.States.{State, setA, setB, setS, setF, emptyA, withF, withPlace, withFlags}
+use Rattle.machine.specs.Outcomes.{Res, on, _>>=_}
+use Rattle.machine.specs.States.{State, setA, setB, setS, setF, emptyA, withF, withCL, withSalf, withMsff, stateOf}
 use Rattle.machine.specs.Stack.{slotOf, pushOf, pushBOf}
-use Rattle.machine.specs.Pushes.{slotIf, emptied, framedOf, insideOf}
+use Rattle.word.specs.Choices.{if_then_else_}
 use Rattle.machine.specs.Calls.{markOf, enterOf}
-use Rattle.machine.specs.Shapes.{stateOf, putOf}
+use Rattle.machine.specs.ForCode.Pushes.{slotIf, emptied, framedOf, enteredOf}
 use Rattle.machine.proofs.Writes.{length-put}
 use Rattle.machine.proofs.Plans.{binds, pushes, push-b, marks}
 use Rattle.word.specs.Layout.{argumentOf, addressOf, fFieldOf, mscwOf, rcwOf}
+use Rattle.machine.specs.ForCode.Answers.{putOf}
 
 -- The code's order.
 unfoldable pub enterPlan : Bool → Bool → List ℕ → Registers → ℕ → Res State
@@ -21,7 +22,7 @@ enterPlan desc argument core g d = do
   p ← slotIf (g .bfull) (length core) (g .s) (g .r)
   q ← slotIf (not argument) (length core) p (g .r)
   s ← slotOf (length core) q (g .r)
-  on (stateOf (framedOf desc argument g p q s core) (insideOf argument g d s))
+  on (stateOf (framedOf desc argument g p q s core) (enteredOf argument g d s))
 
 -- Entry with its argument bit apart.
 abbrev entryOf : Bool → Bool → State → ℕ → Res State
@@ -29,7 +30,7 @@ entryOf desc argument st d = do
   u ← pushBOf (emptyA st)
   v ← markOf argument u
   w ← pushOf v (rcwOf desc (v .regs .l) (v .regs .f) (v .regs .c))
-  on (withFlags (withPlace (withF w (if argument then w .regs .s else fFieldOf d)) (addressOf d) 0) true false)
+  on (withMsff (withSalf (withCL (withF w (if argument then w .regs .s else fFieldOf d)) (addressOf d) 0) true) false)
 
 module _ (desc argument : Bool) (core : List ℕ) (g : Registers) (d : ℕ) where
   -- The states after B and the mark are pushed.
@@ -46,7 +47,7 @@ module _ (desc argument : Bool) (core : List ℕ) (g : Registers) (d : ℕ) wher
   long-two p q = length-put (not argument) q (mscwOf (g .r) (g .msff) (g .salf) (g .f)) (one p .core) ∙ long-one p
 
   entry-plan : enterPlan desc argument core g d ≡ entryOf desc argument (stateOf core g) d
-  unfolding enterPlan framedOf insideOf
+  unfolding enterPlan framedOf enteredOf
   entry-plan =
       sym
       (binds _ _ (push-b (emptyA (stateOf core g)) refl)
@@ -74,6 +75,6 @@ pub inside-is : (argument : Bool) (g : Registers) (d s b y f c : ℕ)
     → y ≡ fFieldOf d
     → f ≡ (if argument then s else y)
     → c ≡ addressOf d
-    → _≡_ {A = Registers} (record { a = 0; afull = false; b = b; bfull = false; s = s; f = f; c = c; r = g .r; l = 0; salf = true; msff = false }) (insideOf argument g d s)
-unfolding insideOf
+    → _≡_ {A = Registers} (record { a = 0; afull = false; b = b; bfull = false; s = s; f = f; c = c; r = g .r; l = 0; salf = true; msff = false }) (enteredOf argument g d s)
+unfolding enteredOf
 inside-is argument g d s b y f c hb hy hf hc = rw (hb, hf, hy, hc)

@@ -6,9 +6,9 @@ use Prim.Native.Nat.{ℕ, zero, suc, _-_, _<_, _≤_}
 use native.Mathlib.Omega.{arith}
 use Rattle.machine.specs.declared.outcome.Cause.{Cause}
 use Rattle.machine.specs.declared.outcome.Cause.the-variants.{Address}
-use Rattle.machine.specs.Outcomes.{Res, on, halt, if_then_else_}
-use Rattle.machine.specs.States.{State}
-use Rattle.machine.specs.Shapes.{stateOf}
+use Rattle.machine.specs.Outcomes.{Res, on, halt}
+use Rattle.machine.specs.States.{State, stateOf}
+use Rattle.word.specs.Choices.{if_then_else_}
 use Rattle.machine.specs.Memory.{readOf}
 use Rattle.machine.specs.Marks.{chainOf, markAtOf}
 use Rattle.machine.proofs.Calculus.{isYes, isNo, isGiven, isCut}

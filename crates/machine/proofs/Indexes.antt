@@ -10,7 +10,7 @@ use lib.Signed.{ltZ, nonNeg}
 use mir.Syntax.{w64}
 use mir.Val.{Fits, ofZ, toZ}
 use Rattle.machine.specs.declared.outcome.Cause.the-variants.{Index, Unwhole}
-use Rattle.machine.specs.Outcomes.{Res, on, halt, if_then_else_}
+use Rattle.machine.specs.Outcomes.{Res, on, halt}
 use Rattle.machine.specs.Arithmetics.{wholeAs, takenOf}
 use Rattle.machine.specs.Calls.{withinOf, indexOf}
 use Rattle.machine.proofs.Calculus.{isYes, isNo, isGiven, isCut}
@@ -23,6 +23,7 @@ use Rattle.word.specs.declared.number.Whole.{Whole}
 use Rattle.word.specs.declared.number.Whole.the-variants.{Number, NotWhole}
 use Rattle.word.proofs.Operands.{value-small}
 use Rattle.word.proofs.Signed.{back, casts, not-below-zero, true-false}
+use Rattle.word.specs.Choices.{if_then_else_}
 
 -- A whole number below 0, below the size, or at least the size.
 within-below : (z : ℤ) (size : ℕ) → ltZ z (pos 0) ≡ true → halt Index ≡ withinOf z size

@@ -6,11 +6,11 @@ use Prim.Native.Nat.{ℕ, _+_, _*_}
 use lib.ListN.{length}
 use Rattle.machine.specs.declared.outcome.Registers.{Registers}
 use Rattle.machine.specs.Outcomes.{Res, on, _>>=_}
-use Rattle.machine.specs.States.{State, setA, setB, setS}
+use Rattle.machine.specs.States.{State, setA, setB, setS, stateOf}
 use Rattle.machine.specs.Stack.{slotOf}
-use Rattle.machine.specs.Pushes.{slotIf, inCoreIf, emptied, piledOf, markedOf}
+use Rattle.machine.specs.ForCode.Pushes.{slotIf, inCoreIf, emptied, piledOf, markedOf}
 use Rattle.machine.specs.Marks.{mksOf}
-use Rattle.machine.specs.Shapes.{stateOf, putOf}
+use Rattle.machine.specs.ForCode.Answers.{putOf}
 use Rattle.machine.proofs.Writes.{length-put}
 use Rattle.machine.proofs.Plans.{binds, pushes, push-a, push-b, also-plan}
 use Rattle.word.specs.Layout.{mscwOf}

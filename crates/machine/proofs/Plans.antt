@@ -7,15 +7,16 @@ use lib.Dec.{ltb}
 use lib.ListN.{length, set}
 use Rattle.machine.specs.declared.outcome.Cause.the-variants.{Address}
 use Rattle.machine.specs.declared.outcome.Registers.{Registers}
-use Rattle.machine.specs.Outcomes.{Res, on, halt, _>>=_, if_then_else_}
-use Rattle.machine.specs.States.{State, setA, setB, setS, setF, withF, emptyA, emptyB}
+use Rattle.machine.specs.Outcomes.{Res, on, halt, _>>=_}
+use Rattle.machine.specs.States.{State, setA, setB, setS, setF, withF, emptyA, emptyB, stateOf}
 use Rattle.machine.specs.Memory.{inCore, storeOf}
 use Rattle.machine.specs.Stack.{slotOf, pushOf, pushAOf, pushBOf}
-use Rattle.machine.specs.Pushes.{slotIf, inCoreIf, emptied}
+use Rattle.word.specs.Choices.{if_then_else_}
 use Rattle.machine.specs.Calls.{markOf}
 use Rattle.machine.specs.Marks.{alsoOf}
-use Rattle.machine.specs.Shapes.{stateOf, putOf}
+use Rattle.machine.specs.ForCode.Pushes.{slotIf, inCoreIf, emptied}
 use Rattle.word.specs.Layout.{mscwOf}
+use Rattle.machine.specs.ForCode.Answers.{putOf}
 
 -- m is the test o, and then the state S of what the test gives.
 pub record Planned {A : Type 0} (m : Res State) (o : Res A) (S : A → State) : Type 0 where

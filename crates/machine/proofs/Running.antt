@@ -12,16 +12,17 @@ use Rattle.machine.specs.declared.outcome.Cause.{Cause}
 use Rattle.machine.specs.declared.outcome.Registers.{Registers}
 use Rattle.machine.specs.declared.outcome.Done.{Done}
 use Rattle.machine.specs.declared.outcome.Done.the-variants.{Next, Com, Stop as DoneStop}
-use Rattle.machine.specs.Outcomes.{if_then_else_, numberOf}
-use Rattle.machine.specs.States.{State}
+use Rattle.machine.specs.Outcomes.{numberOf}
+use Rattle.machine.specs.States.{State, stateOf}
 use Rattle.machine.specs.Steps.{Ended, next, communicated, stopped, executeOf, refusalOf}
 use Rattle.machine.specs.Runs.{Run, endsAt, counted, goesOn, runFrom, runOf}
-use Rattle.machine.specs.Shapes.{stateOf, doneOf, Ends}
-use Rattle.machine.specs.Sprints.{Left}
+use Rattle.word.specs.Choices.{if_then_else_}
+use Rattle.machine.specs.ForCode.Answers.{doneOf, Ends}
 use Rattle.machine.proofs.Endings.{done-kept}
+use Rattle.machine.specs.ForCode.Sprints.{restOfRun}
 
-pub left-none : (b : ℕ) (st : State) → runFrom b st ≡ Left b 0 st
-unfolding Left
+pub left-none : (b : ℕ) (st : State) → runFrom b st ≡ restOfRun b 0 st
+unfolding restOfRun
 left-none b st =
     let e : b - 0 ≡ b = omega arith in
     rw (e, zero-add (runFrom b st .completed))
@@ -30,33 +31,33 @@ module _ (b n : ℕ) (st : State) (more : n < b) where
   less : b - n ≡ suc (b - (n + 1))
   less = omega arith
 
-  pub left-on : (u : State) → executeOf st ≡ next u → Left b n st ≡ Left b (n + 1) u
-  unfolding Left runFrom
+  pub left-on : (u : State) → executeOf st ≡ next u → restOfRun b n st ≡ restOfRun b (n + 1) u
+  unfolding restOfRun runFrom
   left-on u e = rw (less, e, add-assoc n 1 (runFrom (b - (n + 1)) u .completed))
 
-  left-com : (u : State) → executeOf st ≡ communicated u → Left b n st ≡ endsAt 17 (n + 1) u
-  unfolding Left runFrom
+  left-com : (u : State) → executeOf st ≡ communicated u → restOfRun b n st ≡ endsAt 17 (n + 1) u
+  unfolding restOfRun runFrom
   left-com u e = rw (less, e)
 
-  left-stop : (c : Cause) → executeOf st ≡ stopped c → Left b n st ≡ endsAt (numberOf c) n st
-  unfolding Left runFrom
+  left-stop : (c : Cause) → executeOf st ≡ stopped c → restOfRun b n st ≡ endsAt (numberOf c) n st
+  unfolding restOfRun runFrom
   left-stop c e = rw (less, e, add-zero n)
 
-pub left-end : (b n : ℕ) (st : State) → b ≤ n → Left b n st ≡ endsAt 0 n st
-unfolding Left runFrom
+pub left-end : (b n : ℕ) (st : State) → b ≤ n → restOfRun b n st ≡ endsAt 0 n st
+unfolding restOfRun runFrom
 left-end b n st h =
     let e : b - n ≡ 0 = omega arith in
     rw (e, add-zero n)
 
 -- The same from what a syllable answered.
 module _ {core core′ : List ℕ} {r : Done} (b n : ℕ) (g : Registers) (more : n < b) (d : Ends core core′ r (executeOf (stateOf core g))) where
-  pub goes-on : {h : Registers} → r ≡ Next h → Left b n (stateOf core g) ≡ Left b (n + 1) (stateOf core′ h)
+  pub goes-on : {h : Registers} → r ≡ Next h → restOfRun b n (stateOf core g) ≡ restOfRun b (n + 1) (stateOf core′ h)
   goes-on {h} e = left-on b n (stateOf core g) more (stateOf core′ h) (sym (d .same) ∙ ap (doneOf core′) e)
 
-  pub ends-com : {h : Registers} → r ≡ Com h → Left b n (stateOf core g) ≡ endsAt 17 (n + 1) (stateOf core′ h)
+  pub ends-com : {h : Registers} → r ≡ Com h → restOfRun b n (stateOf core g) ≡ endsAt 17 (n + 1) (stateOf core′ h)
   ends-com {h} e = left-com b n (stateOf core g) more (stateOf core′ h) (sym (d .same) ∙ ap (doneOf core′) e)
 
-  pub ends-stop : {c : Cause} (m : ℕ) → r ≡ DoneStop c → m ≡ numberOf c → Left b n (stateOf core g) ≡ endsAt m n (stateOf core′ g)
+  pub ends-stop : {c : Cause} (m : ℕ) → r ≡ DoneStop c → m ≡ numberOf c → restOfRun b n (stateOf core g) ≡ endsAt m n (stateOf core′ g)
   ends-stop {c} m e k =
       left-stop b n (stateOf core g) more c (sym (d .same) ∙ ap (doneOf core′) e) ∙ ap (λ (i : ℕ). endsAt i n (stateOf core g)) (sym k)
       ∙ ap (λ (l : List ℕ). endsAt m n (stateOf l g)) (sym (done-kept d e))

@@ -8,12 +8,13 @@ use borrow.Author.Tests.{ltb-true, eqb-false}
 use lib.Dec.{ltb, eqb}
 use lib.ListN.{length}
 use Rattle.machine.specs.declared.outcome.Cause.the-variants.{Address, Overflow}
-use Rattle.machine.specs.Outcomes.{Res, on, halt, _>>=_, if_then_else_}
+use Rattle.machine.specs.Outcomes.{Res, on, halt, _>>=_}
 use Rattle.machine.specs.States.{State}
 use Rattle.machine.specs.Memory.{inCore, readOf, baseOf, patternOf, kAddressOf}
-use Rattle.machine.specs.Pushes.{slotIf}
+use Rattle.word.specs.Choices.{if_then_else_}
 use Rattle.machine.specs.Stack.{slotOf, topOf}
 use Rattle.word.specs.Layout.{fFieldOf}
+use Rattle.machine.specs.ForCode.Pushes.{slotIf}
 
 -- What a result that went on says of its value.
 pub data Gives {A : Type 0} (P : A → Type 0) : Res A → Type 0 where

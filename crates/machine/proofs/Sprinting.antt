@@ -14,8 +14,8 @@ use Rattle.machine.specs.declared.outcome.Registers.{Registers}
 use Rattle.machine.specs.declared.outcome.Hot.{Hot}
 use Rattle.machine.specs.declared.outcome.Hurry.{Hurry}
 use Rattle.machine.specs.declared.outcome.Hurry.the-variants.{On, Slow}
-use Rattle.machine.specs.Outcomes.{Res, on, halt, _>>=_, if_then_else_}
-use Rattle.machine.specs.States.{State, setPlace}
+use Rattle.machine.specs.Outcomes.{Res, on, halt, _>>=_}
+use Rattle.machine.specs.States.{State, setCL, stateOf}
 use Rattle.machine.specs.Memory.{baseOf, patternOf, kAddressOf, readOf}
 use Rattle.machine.specs.Stack.{pushBOf, aEmptyOf, aFullOf, bFullOf, bothFullOf}
 use Rattle.machine.specs.Stores.{litcOf, placeOf, sndOf, stdOf}
@@ -24,8 +24,8 @@ use Rattle.machine.specs.Arithmetics.{takenOf, twoOf}
 use Rattle.machine.specs.Branches.{landingOf, jumpOf, ifOffOf}
 use Rattle.machine.specs.Steps.{Ended, next, plain, operateOf, performOf, executeOf}
 use Rattle.machine.specs.Runs.{Run}
-use Rattle.machine.specs.Shapes.{stateOf}
-use Rattle.machine.specs.Sprints.{upon, underOf, elementOf, raised, quickly, waits, Hurries, Left}
+use Rattle.word.specs.Choices.{if_then_else_}
+use Rattle.machine.specs.ForCode.Sprints.{upon, underOf, elementOf, raised, quickly, waits, Hurries, restOfRun}
 use Rattle.machine.proofs.Calculus.{isYes, isNo, isGiven}
 use Rattle.machine.proofs.Indexes.{index-small}
 use Rattle.machine.proofs.Results.{worked}
@@ -36,10 +36,11 @@ use Rattle.word.specs.Kinds.{kindOf}
 use Rattle.word.specs.Addresses.{sumOf}
 use Rattle.word.specs.Field.{withField}
 use Rattle.word.specs.Layout.{flagOf, signOf, presenceOf, sizeOf, addressOf}
-use Rattle.syllable.specs.declared.Place.{Place}
+use Rattle.syllable.specs.declared.Position.{Position}
 use Rattle.syllable.specs.Decoding.{decodeOf}
-use Rattle.syllable.specs.Numbers.{tableOf, operatorAt, syllableAt}
-use Rattle.syllable.specs.Places.{syllableOf, advanceOf}
+use Rattle.syllable.specs.Numbers.{operatorNumbers}
+use Rattle.syllable.specs.Positions.{syllableOf, advanceOf}
+use Rattle.syllable.specs.ForCode.Numbered.{operatorNumbered, syllableNumbered}
 
 -- ---- two tests at once
 
@@ -225,42 +226,42 @@ module _ (core : List ℕ) (g : Registers) (t : Hot) (full : (t .afull && t .bfu
 
 -- ---- a syllable by its operator number
 
-pub as-number : {core core′ : List ℕ} {g : Registers} {r : Hurry} (here k : ℕ) (st : State) {n m : ℕ} → n ≡ m → Hurries core core′ g r (performOf here (syllableAt m k) st) → Hurries core core′ g r (performOf here (syllableAt n k) st)
+pub as-number : {core core′ : List ℕ} {g : Registers} {r : Hurry} (here k : ℕ) (st : State) {n m : ℕ} → n ≡ m → Hurries core core′ g r (performOf here (syllableNumbered m k) st) → Hurries core core′ g r (performOf here (syllableNumbered n k) st)
 as-number here k st e d = rw e d
 
-pub as-operator : (here n k : ℕ) (st : State) → n ≤ 11 → operateOf here (operatorAt n k) st ≡ performOf here (syllableAt n k) st
+pub as-operator : (here n k : ℕ) (st : State) → n ≤ 11 → operateOf here (operatorNumbered n k) st ≡ performOf here (syllableNumbered n k) st
 unfolding performOf
 as-operator here n k st h = rw (ne-eqb n 37 (λ e. omega arith), ne-eqb n 38 (λ e. omega arith), ne-eqb n 39 (λ e. omega arith))
 
-pub as-store : (here n k : ℕ) (st : State) → (eqb n 27 || eqb n 28) ≡ true → plain (if eqb n 28 then sndOf here st else stdOf here st) ≡ performOf here (syllableAt n k) st
+pub as-store : (here n k : ℕ) (st : State) → (eqb n 27 || eqb n 28) ≡ true → plain (if eqb n 28 then sndOf here st else stdOf here st) ≡ performOf here (syllableNumbered n k) st
 unfolding performOf operateOf if_then_else_
 as-store here n k st h = go (eqb n 27) (eqb n 28) refl refl h
   where
-    go : (x y : Bool) → eqb n 27 ≡ x → eqb n 28 ≡ y → (x || y) ≡ true → plain (if eqb n 28 then sndOf here st else stdOf here st) ≡ performOf here (syllableAt n k) st
+    go : (x y : Bool) → eqb n 27 ≡ x → eqb n 28 ≡ y → (x || y) ≡ true → plain (if eqb n 28 then sndOf here st else stdOf here st) ≡ performOf here (syllableNumbered n k) st
     go true y e _ _ = rw (eqb-true n 27 e)
     go false true _ f _ = rw (eqb-true n 28 f)
     go false false _ _ z = absurd (false≢true z)
 
-pub as-turn : (here n k : ℕ) (st : State) → (eqb n 32 || eqb n 33) ≡ true → plain (ifOffOf (eqb n 33) st) ≡ performOf here (syllableAt n k) st
+pub as-turn : (here n k : ℕ) (st : State) → (eqb n 32 || eqb n 33) ≡ true → plain (ifOffOf (eqb n 33) st) ≡ performOf here (syllableNumbered n k) st
 unfolding performOf operateOf
 as-turn here n k st h = go (eqb n 32) (eqb n 33) refl refl h
   where
-    go : (x y : Bool) → eqb n 32 ≡ x → eqb n 33 ≡ y → (x || y) ≡ true → plain (ifOffOf (eqb n 33) st) ≡ performOf here (syllableAt n k) st
+    go : (x y : Bool) → eqb n 32 ≡ x → eqb n 33 ≡ y → (x || y) ≡ true → plain (ifOffOf (eqb n 33) st) ≡ performOf here (syllableNumbered n k) st
     go true y e _ _ = rw (eqb-true n 32 e)
     go false true _ f _ = rw (eqb-true n 33 f)
     go false false _ _ z = absurd (false≢true z)
 
 -- ---- the fetch, and a run carried on
 
-fetched-is : (core : List ℕ) (g : Registers) (w y n : ℕ) (table : List ℕ) (p : Place) → readOf core (g .c) ≡ on w → y ≡ syllableOf w (g .l) → table ≡ tableOf → n ≡ getD table y 0 → p ≡ advanceOf (g .c) (g .l) → executeOf (stateOf core g) ≡ performOf (g .c) (syllableAt n (y / 4)) (stateOf core (setPlace g (p .c) (p .l)))
+fetched-is : (core : List ℕ) (g : Registers) (w y n : ℕ) (table : List ℕ) (p : Position) → readOf core (g .c) ≡ on w → y ≡ syllableOf w (g .l) → table ≡ operatorNumbers → n ≡ getD table y 0 → p ≡ advanceOf (g .c) (g .l) → executeOf (stateOf core g) ≡ performOf (g .c) (syllableNumbered n (y / 4)) (stateOf core (setCL g (p .c) (p .l)))
 unfolding executeOf
 fetched-is core g w y n table p e s t i a =
-    let q : syllableAt n (y / 4) ≡ decodeOf (syllableOf w (g .l)) = read-by y n table (syllable-lt w (g .l) y s) t i ∙ ap decodeOf s in
+    let q : syllableNumbered n (y / 4) ≡ decodeOf (syllableOf w (g .l)) = read-by y n table (syllable-lt w (g .l) y s) t i ∙ ap decodeOf s in
     rw (e, q, a)
 
-pub sprints-on : {core core′ : List ℕ} {r : Hurry} (b i : ℕ) (g : Registers) (t x : Hot) (w y n : ℕ) (table : List ℕ) (p : Place) → i < b → readOf core (t .c) ≡ on w → y ≡ syllableOf w (t .l) → table ≡ tableOf → n ≡ getD table y 0 → p ≡ advanceOf (t .c) (t .l) → Hurries core core′ g r (performOf (t .c) (syllableAt n (y / 4)) (stateOf core (upon g (record { a = t .a; b = t .b; afull = t .afull; bfull = t .bfull; c = p .c; l = p .l })))) → r ≡ On x → Left b i (stateOf core (upon g t)) ≡ Left b (i + 1) (stateOf core′ (upon g x))
+pub sprints-on : {core core′ : List ℕ} {r : Hurry} (b i : ℕ) (g : Registers) (t x : Hot) (w y n : ℕ) (table : List ℕ) (p : Position) → i < b → readOf core (t .c) ≡ on w → y ≡ syllableOf w (t .l) → table ≡ operatorNumbers → n ≡ getD table y 0 → p ≡ advanceOf (t .c) (t .l) → Hurries core core′ g r (performOf (t .c) (syllableNumbered n (y / 4)) (stateOf core (upon g (record { a = t .a; b = t .b; afull = t .afull; bfull = t .bfull; c = p .c; l = p .l })))) → r ≡ On x → restOfRun b i (stateOf core (upon g t)) ≡ restOfRun b (i + 1) (stateOf core′ (upon g x))
 sprints-on {core} {core′} b i g t x w y n table p m e s k o a d h =
     left-on b i (stateOf core (upon g t)) m (stateOf core′ (upon g x)) (fetched-is core (upon g t) w y n table p e s k o a ∙ hurried d h)
 
-pub stands : {core core′ : List ℕ} {g h : Registers} {r : Run} (b n : ℕ) → r ≡ Left b n (stateOf core g) → core′ ≡ core → h ≡ g → r ≡ Left b n (stateOf core′ h)
+pub stands : {core core′ : List ℕ} {g h : Registers} {r : Run} (b n : ℕ) → r ≡ restOfRun b n (stateOf core g) → core′ ≡ core → h ≡ g → r ≡ restOfRun b n (stateOf core′ h)
 stands b n e c q = rw (c, q) e

@@ -10,8 +10,7 @@ use lib.Bits.{bitXor, xor-lt}
 use lib.Dec.{eqb}
 use Rattle.machine.specs.declared.outcome.Registers.{Registers}
 use Rattle.machine.specs.Outcomes.{on}
-use Rattle.machine.specs.States.{State}
-use Rattle.machine.specs.Shapes.{stateOf}
+use Rattle.machine.specs.States.{State, stateOf}
 use Rattle.machine.specs.Bits.{lngOf, chsOf}
 use Rattle.word.specs.Field.{field, withField, bit, oneOf}
 use Rattle.word.specs.Layout.{bodyOf, signOf, addressOf}

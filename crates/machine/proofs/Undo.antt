@@ -10,9 +10,9 @@ use Rattle.machine.specs.declared.outcome.Registers.{Registers}
 use Rattle.machine.specs.declared.outcome.Went.{Went}
 use Rattle.machine.specs.declared.outcome.Went.the-variants.{On, Stop}
 use Rattle.machine.specs.Outcomes.{Res, on, halt, _>>=_}
-use Rattle.machine.specs.States.{State, setA, setB, setS}
+use Rattle.machine.specs.States.{State, setA, setB, setS, stateOf}
 use Rattle.machine.specs.Stack.{slotOf, pushOf, pushBOf, aEmptyOf}
-use Rattle.machine.specs.Shapes.{stateOf, putOf, Does}
+use Rattle.machine.specs.ForCode.Answers.{putOf, Does}
 use Rattle.machine.proofs.Calculus.{isYes, isNo, isGiven, isCut, staysAt, wrote, went, cut, kept}
 use Rattle.machine.proofs.Sizes.{given, slot-gives}
 use Rattle.machine.proofs.Writes.{put-back}

@@ -5,7 +5,7 @@ use mathlib.Core.List.{List}
 use Prim.Native.Nat.{ℕ, _<_, _≤_}
 use lib.ListN.{length, set, getD, length-set}
 use lib.Seq.{set-out, set-set, set-getD}
-use Rattle.machine.specs.Shapes.{putOf}
+use Rattle.machine.specs.ForCode.Answers.{putOf}
 
 pub put-yes : (live : Bool) (m w : ℕ) (core : List ℕ) → live ≡ true → set core m w ≡ putOf live m w core
 put-yes true m w core e = refl

@@ -5,7 +5,7 @@ use lib.Dec.{eqb}
 use lib.IntN.{ℤ, natAbs, _+ℤ_, _-ℤ_, _*ℤ_}
 use lib.Signed.{ltZ, leZ, quotZ, remZ}
 use Rattle.machine.specs.declared.outcome.Cause.the-variants.{Unwhole, ZeroDivisor}
-use Rattle.machine.specs.Outcomes.{Res, on, halt, _>>=_, if_then_else_}
+use Rattle.machine.specs.Outcomes.{Res, on, halt, _>>=_}
 use Rattle.machine.specs.States.{State, emptyA, fillB}
 use Rattle.machine.specs.Stack.{bothFullOf}
 use Rattle.word.specs.Field.{oneOf}
@@ -18,6 +18,7 @@ use Rattle.syllable.specs.declared.Arithmetic.{Arithmetic}
 use Rattle.syllable.specs.declared.Arithmetic.the-variants.{Add, Sub, Mul, Idv, Rdv}
 use Rattle.syllable.specs.declared.Relation.{Relation}
 use Rattle.syllable.specs.declared.Relation.the-variants.{Gtr, Geq, Eql, Leq, Lss, Neq}
+use Rattle.word.specs.Choices.{if_then_else_}
 
 -- "An exponent not 0: 20"
 abbrev pub wholeAs : Whole → Res ℤ

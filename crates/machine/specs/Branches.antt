@@ -3,11 +3,12 @@ use Prim.Native.Nat.{ℕ, _+_, _-_, _*_, _/_, _%_}
 use mathlib.Core.Bool.{Bool, true, false}
 use lib.Dec.{ltb}
 use Rattle.machine.specs.declared.outcome.Cause.the-variants.{Address, Presence}
-use Rattle.machine.specs.Outcomes.{Res, on, halt, _>>=_, if_then_else_}
-use Rattle.machine.specs.States.{State, emptyA, emptyB, withPlace}
+use Rattle.machine.specs.Outcomes.{Res, on, halt, _>>=_}
+use Rattle.machine.specs.States.{State, emptyA, emptyB, withCL}
 use Rattle.machine.specs.Stack.{aFullOf, bothFullOf}
 use Rattle.word.specs.Field.{field, bit}
 use Rattle.word.specs.Layout.{flagOf, presenceOf, addressOf}
+use Rattle.word.specs.Choices.{if_then_else_}
 
 -- "syllables forward or back from the next one, which after 131,071 is 0; a target before syllable 0 or after 131,071: 11."
 -- n is the number of the next syllable, to which the step has advanced.
@@ -20,11 +21,11 @@ landingOf back n d =
 -- "Flag off: low 12 bits of A are syllables forward or back from the next one, .. Flag on: 13 if bit 2 off, else C:=address, L:=0."
 unfoldable pub jumpOf : Bool → State → ℕ → Res State
 jumpOf back st w =
-    if flagOf w then (if presenceOf w then on (withPlace st (addressOf w) 0) else halt Presence)
+    if flagOf w then (if presenceOf w then on (withCL st (addressOf w) 0) else halt Presence)
     else
     (do
       n ← landingOf back (4 * st .regs .c + st .regs .l) (field w 36 47)
-      on (withPlace st (n / 4) (n % 4)))
+      on (withCL st (n / 4) (n % 4)))
 
 -- "BFW, BBW: one; .. A .. emptied, taken or not."
 unfoldable pub alwaysOf : Bool → State → Res State

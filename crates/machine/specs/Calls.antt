@@ -4,8 +4,8 @@ use mathlib.Core.Bool.{Bool, true, false, not, _&&_}
 use lib.Dec.{eqb, ltb}
 use lib.IntN.{ℤ, pos, negsuc}
 use Rattle.machine.specs.declared.outcome.Cause.the-variants.{Presence, Flag, Index, Unbuilt}
-use Rattle.machine.specs.Outcomes.{Res, on, halt, _>>=_, if_then_else_}
-use Rattle.machine.specs.States.{State, fillA, emptyA, emptyB, withF, withPlace, withFlags, wordAt}
+use Rattle.machine.specs.Outcomes.{Res, on, halt, _>>=_}
+use Rattle.machine.specs.States.{State, fillA, emptyA, emptyB, withF, withCL, withSalf, withMsff, wordAt}
 use Rattle.machine.specs.Memory.{readOf, kAddressOf}
 use Rattle.machine.specs.Stack.{pushOf, pushBOf, aEmptyOf, bFullOf}
 use Rattle.machine.specs.Arithmetics.{takenOf}
@@ -15,6 +15,7 @@ use Rattle.word.specs.Addresses.{sumOf}
 use Rattle.word.specs.Kinds.{kindOf}
 use Rattle.word.specs.declared.kinds.Kind.{Kind}
 use Rattle.word.specs.declared.kinds.Kind.the-variants.{Operand, Data, Program, Control}
+use Rattle.word.specs.Choices.{if_then_else_}
 
 -- "below 0 or at least size: 15; -0 is 0"
 unfoldable pub withinOf : ℤ → ℕ → Res ℕ
@@ -65,7 +66,7 @@ enterOf desc st d = do
   u ← pushBOf (emptyA st)
   v ← markOf (argumentOf d) u
   w ← pushOf v (rcwOf desc (v .regs .l) (v .regs .f) (v .regs .c))
-  on (withFlags (withPlace (withF w (if argumentOf d then w .regs .s else fFieldOf d)) (addressOf d) 0) true false)
+  on (withMsff (withSalf (withCL (withF w (if argumentOf d then w .regs .s else fFieldOf d)) (addressOf d) 0) true) false)
 
 -- "Program descriptor: mode on, 19; argument on with MSFF off, left in A; otherwise enter"
 unfoldable pub programCallOf : Bool → State → ℕ → Res State

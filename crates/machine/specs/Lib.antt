@@ -10,6 +10,4 @@ pub mod Branches
 pub mod Marks
 pub mod Steps
 pub mod Runs
-pub mod Shapes
-pub mod Pushes
-pub mod Sprints
+pub mod ForCode

@@ -4,15 +4,17 @@ use mathlib.Core.Bool.{Bool, true, false, not, _&&_}
 use mathlib.Core.List.{List}
 use lib.Dec.{eqb}
 use Rattle.machine.specs.declared.outcome.Cause.the-variants.{Address, Flag}
-use Rattle.machine.specs.Outcomes.{Res, on, halt, _>>=_, if_then_else_}
-use Rattle.machine.specs.States.{State, emptyA, emptyB, withS, withF, withPlace, withR, withFlags}
+use Rattle.machine.specs.Outcomes.{Res, on, halt, _>>=_}
+use Rattle.machine.specs.States.{State, emptyA, emptyB, withS, withF, withCL, withR, withSalf, withMsff}
 use Rattle.machine.specs.Memory.{readOf, storeOf}
 use Rattle.machine.specs.Stack.{pushOf, pushAOf, pushBOf}
 use Rattle.word.specs.Layout.{flagOf, fFieldOf, mscwROf, mscwMsffOf, mscwSalfOf, mscwOf, rcwLOf, rcwCOf}
+use Rattle.word.specs.Choices.{if_then_else_}
+use Rattle.word.specs.Addresses.{cellAddress}
 
 -- "if SALF on and MSFF off, write that MSCW also at 64R+7 (11)"
 unfoldable pub alsoOf : State → ℕ → Res State
-alsoOf st m = if st .regs .salf && not (st .regs .msff) then storeOf st (64 * st .regs .r + 7) m else on st
+alsoOf st m = if st .regs .salf && not (st .regs .msff) then storeOf st (cellAddress (st .regs .r) 7) m else on st
 
 -- "MKS: push B, then A, if full; push MSCW; F:=S; .. ; MSFF on."
 unfoldable pub mksOf : State → Res State
@@ -21,7 +23,7 @@ mksOf st = do
   v ← pushAOf u
   w ← pushOf v (mscwOf (st .regs .r) (st .regs .msff) (st .regs .salf) (st .regs .f))
   x ← alsoOf w (mscwOf (st .regs .r) (st .regs .msff) (st .regs .salf) (st .regs .f))
-  on (withFlags (withF x (x .regs .s)) (x .regs .salf) true)
+  on (withMsff (withF x (x .regs .s)) true)
 
 -- "Outside core 11, flag off 14."
 unfoldable pub controlOf : List ℕ → ℕ → Res ℕ
@@ -46,7 +48,7 @@ restoreOf st =
     if st .regs .msff && st .regs .salf then
     (do
       w ← chainOf 32768 (st .core) (st .regs .f)
-      storeOf st (64 * st .regs .r + 7) w)
+      storeOf st (cellAddress (st .regs .r) 7) w)
     else on st
 
 -- "Empty A, B; the word at F gives C, L, F; the word at the new F gives R, MSFF, SALF, F, and S becomes its address less 1"
@@ -56,7 +58,7 @@ leaveOf st = do
   mscw ← markAtOf (st .core) (fFieldOf rcw)
   on
       (withS
-      (withF (withFlags (withR (withPlace (emptyB (emptyA st)) (rcwCOf rcw) (rcwLOf rcw)) (mscwROf mscw)) (mscwSalfOf mscw) (mscwMsffOf mscw)) (fFieldOf mscw))
+      (withF (withSalf (withMsff (withR (withCL (emptyB (emptyA st)) (rcwCOf rcw) (rcwLOf rcw)) (mscwROf mscw)) (mscwMsffOf mscw)) (mscwSalfOf mscw)) (fFieldOf mscw))
       (fFieldOf rcw - 1))
 
 -- "XIT: nothing if SALF is off."

@@ -1,11 +1,9 @@
 -- A part of a syllable goes on with a result or halts for a cause.
 use Prim.Native.Nat.{ℕ}
-use mathlib.Core.Bool.{Bool, true, false}
 use Rattle.machine.specs.declared.outcome.Cause.{Cause}
 use Rattle.machine.specs.declared.outcome.Cause.the-variants.{Address, Overflow, Presence, Flag, Index, Unbuilt, Unwhole, ZeroDivisor}
 
 infixl 20 _>>=_
-infixr 10 if_then_else_
 pub data Res (A : Type 0) : Type 0 where
   on : A → Res A
   halt : Cause → Res A
@@ -14,10 +12,6 @@ pub data Res (A : Type 0) : Type 0 where
 unfoldable pub _>>=_ : {A B : Type 0} → Res A → (A → Res B) → Res B
 on a >>= f = f a
 halt n >>= f = halt n
-
-unfoldable pub if_then_else_ : {A : Type 0} → Bool → A → A → A
-if true then x else y = x
-if false then x else y = y
 
 -- "Numbers given back": "11, 12, 13, 14, 15: address, stack overflow, presence, flag, index"; "19, 20, 21: not built, number not whole 39-bit, zero divisor".
 abbrev pub numberOf : Cause → ℕ

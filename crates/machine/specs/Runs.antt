@@ -4,9 +4,11 @@ use mathlib.Core.Bool.{Bool, true, false}
 use mathlib.Core.List.{List}
 use lib.Dec.{eqb, leb}
 use Rattle.machine.specs.declared.outcome.Registers.{Registers}
-use Rattle.machine.specs.Outcomes.{if_then_else_, numberOf}
-use Rattle.machine.specs.States.{State}
+use Rattle.machine.specs.declared.outcome.Ran.{Ran}
+use Rattle.machine.specs.Outcomes.{numberOf}
+use Rattle.machine.specs.States.{State, stateOf}
 use Rattle.machine.specs.Steps.{Ended, next, communicated, stopped, executeOf, refusalOf}
+use Rattle.word.specs.Choices.{if_then_else_}
 
 -- "A run answers the stop, the syllables completed (COM counts) and the state"
 pub record Run : Type 0 where
@@ -36,5 +38,9 @@ runFrom (suc budget) st = goesOn (executeOf st) (runFrom budget) st
 unfoldable pub runOf : List ℕ → Registers → ℕ → Run
 runOf core g budget =
     if eqb (refusalOf core g) 0 then
-    (if leb budget 1000000 then runFrom budget (record { core = core; regs = g }) else endsAt 5 0 (record { core = core; regs = g }))
-    else endsAt (refusalOf core g) 0 (record { core = core; regs = g })
+    (if leb budget 1000000 then runFrom budget (stateOf core g) else endsAt 5 0 (stateOf core g))
+    else endsAt (refusalOf core g) 0 (stateOf core g)
+
+-- A run's answer with the core that it left.
+abbrev pub ranOf : Ran → List ℕ → Run
+ranOf r core = record { stop = r .stop; completed = r .completed; core = core; regs = r .regs }

@@ -5,9 +5,10 @@ use mathlib.Core.List.{List}
 use lib.Dec.{eqb, ltb}
 use lib.ListN.{length}
 use Rattle.machine.specs.declared.outcome.Cause.the-variants.{Address, Overflow}
-use Rattle.machine.specs.Outcomes.{Res, on, halt, _>>=_, if_then_else_}
+use Rattle.machine.specs.Outcomes.{Res, on, halt, _>>=_}
 use Rattle.machine.specs.States.{State, fillA, emptyA, fillB, emptyB, withS, store}
 use Rattle.machine.specs.Memory.{readOf}
+use Rattle.word.specs.Choices.{if_then_else_}
 
 -- "Push: to S+1; .. Stop 12 if floor((S+1)/64)=R, else 11 if S+1 is not below the core length." The address that a push writes.
 unfoldable pub slotOf : ℕ → ℕ → ℕ → Res ℕ

@@ -10,6 +10,9 @@ pub record State : Type 0 where
   pub core : List ℕ
   pub regs : Registers
 
+abbrev pub stateOf : List ℕ → Registers → State
+stateOf core g = record { core = core; regs = g }
+
 abbrev pub setA : Registers → Bool → ℕ → Registers
 setA g full x = record { a = x; afull = full; b = g .b; bfull = g .bfull; s = g .s; f = g .f; c = g .c; r = g .r; l = g .l; salf = g .salf; msff = g .msff }
 
@@ -22,14 +25,17 @@ setS g x = record { a = g .a; afull = g .afull; b = g .b; bfull = g .bfull; s = 
 abbrev pub setF : Registers → ℕ → Registers
 setF g x = record { a = g .a; afull = g .afull; b = g .b; bfull = g .bfull; s = g .s; f = x; c = g .c; r = g .r; l = g .l; salf = g .salf; msff = g .msff }
 
-abbrev pub setPlace : Registers → ℕ → ℕ → Registers
-setPlace g c l = record { a = g .a; afull = g .afull; b = g .b; bfull = g .bfull; s = g .s; f = g .f; c = c; r = g .r; l = l; salf = g .salf; msff = g .msff }
+abbrev pub setCL : Registers → ℕ → ℕ → Registers
+setCL g c l = record { a = g .a; afull = g .afull; b = g .b; bfull = g .bfull; s = g .s; f = g .f; c = c; r = g .r; l = l; salf = g .salf; msff = g .msff }
 
 abbrev pub setR : Registers → ℕ → Registers
 setR g x = record { a = g .a; afull = g .afull; b = g .b; bfull = g .bfull; s = g .s; f = g .f; c = g .c; r = x; l = g .l; salf = g .salf; msff = g .msff }
 
-abbrev pub setFlags : Registers → Bool → Bool → Registers
-setFlags g salf msff = record { a = g .a; afull = g .afull; b = g .b; bfull = g .bfull; s = g .s; f = g .f; c = g .c; r = g .r; l = g .l; salf = salf; msff = msff }
+abbrev pub setSalf : Registers → Bool → Registers
+setSalf g x = record { a = g .a; afull = g .afull; b = g .b; bfull = g .bfull; s = g .s; f = g .f; c = g .c; r = g .r; l = g .l; salf = x; msff = g .msff }
+
+abbrev pub setMsff : Registers → Bool → Registers
+setMsff g x = record { a = g .a; afull = g .afull; b = g .b; bfull = g .bfull; s = g .s; f = g .f; c = g .c; r = g .r; l = g .l; salf = g .salf; msff = x }
 
 -- The same of a state.
 abbrev pub withRegs : State → Registers → State
@@ -53,14 +59,17 @@ withS st x = withRegs st (setS (st .regs) x)
 abbrev pub withF : State → ℕ → State
 withF st x = withRegs st (setF (st .regs) x)
 
-abbrev pub withPlace : State → ℕ → ℕ → State
-withPlace st c l = withRegs st (setPlace (st .regs) c l)
+abbrev pub withCL : State → ℕ → ℕ → State
+withCL st c l = withRegs st (setCL (st .regs) c l)
 
 abbrev pub withR : State → ℕ → State
 withR st x = withRegs st (setR (st .regs) x)
 
-abbrev pub withFlags : State → Bool → Bool → State
-withFlags st salf msff = withRegs st (setFlags (st .regs) salf msff)
+abbrev pub withSalf : State → Bool → State
+withSalf st x = withRegs st (setSalf (st .regs) x)
+
+abbrev pub withMsff : State → Bool → State
+withMsff st x = withRegs st (setMsff (st .regs) x)
 
 -- The word at an address of core, and the state with another word there.
 abbrev pub wordAt : State → ℕ → ℕ

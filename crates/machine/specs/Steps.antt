@@ -1,13 +1,14 @@
 -- The step: fetch, advance, perform; and the checks before it.
-use Prim.Native.Nat.{ℕ, _+_, _*_, _/_, _%_, _^_}
+use Prim.Native.Nat.{ℕ, _^_}
 use mathlib.Core.Bool.{Bool, true, false, _&&_}
 use mathlib.Core.List.{List}
 use lib.Dec.{eqb, ltb}
 use Rattle.machine.specs.declared.outcome.Cause.{Cause}
 use Rattle.machine.specs.declared.outcome.Cause.the-variants.{Unbuilt}
 use Rattle.machine.specs.declared.outcome.Registers.{Registers}
-use Rattle.machine.specs.Outcomes.{Res, on, halt, _>>=_, if_then_else_, numberOf}
-use Rattle.machine.specs.States.{State, withPlace}
+use Rattle.machine.specs.declared.outcome.Answer.{Answer}
+use Rattle.machine.specs.Outcomes.{Res, on, halt, _>>=_, numberOf}
+use Rattle.machine.specs.States.{State, stateOf, withCL}
 use Rattle.machine.specs.Memory.{readOf}
 use Rattle.machine.specs.Arithmetics.{twoOf, reckonOf, relateOf}
 use Rattle.machine.specs.Bits.{twoWordsOf, lndOf, lorOf, lqvOf, lngOf, mopOf, mdsOf, sspOf, ssnOf, chsOf, oneWordOf, topFlagOf, xchOf, dupOf, delOf, inxOf}
@@ -25,7 +26,8 @@ use Rattle.syllable.specs.declared.Syllable.{Syllable}
 use Rattle.syllable.specs.declared.Syllable.the-variants.{Litc, Opdc, Desc, Operator as Operates}
 use Rattle.word.specs.Core.{lengthFits, wordsFit}
 use Rattle.syllable.specs.Decoding.{decodeOf}
-use Rattle.syllable.specs.Places.{syllableOf, nextOf}
+use Rattle.syllable.specs.Positions.{syllableOf, advanceOf}
+use Rattle.word.specs.Choices.{if_then_else_}
 
 -- A syllable goes on, communicates (it completes, and the machine stops 17), or stops for a cause.
 pub data Ended : Type 0 where
@@ -86,9 +88,7 @@ performOf here (Operates o) st = operateOf here o st
 
 -- "The step reads at C, L, then advances; 32767 with L=3 advances to 0, 0."
 abbrev pub advancedOf : State → State
-advancedOf st =
-    let n = nextOf (4 * st .regs .c + st .regs .l) in
-    withPlace st (n / 4) (n % 4)
+advancedOf st = withCL st (advanceOf (st .regs .c) (st .regs .l) .c) (advanceOf (st .regs .c) (st .regs .l) .l)
 
 abbrev pub fetchedBy : Res ℕ → State → Ended
 fetchedBy (on w) st = performOf (st .regs .c) (decodeOf (syllableOf w (st .regs .l))) (advancedOf st)
@@ -133,5 +133,9 @@ endedAs (stopped n) st = record { number = numberOf n; core = st .core; regs = s
 
 unfoldable pub stepOf : List ℕ → Registers → Stepped
 stepOf core g =
-    if eqb (refusalOf core g) 0 then endedAs (executeOf (record { core = core; regs = g })) (record { core = core; regs = g })
+    if eqb (refusalOf core g) 0 then endedAs (executeOf (stateOf core g)) (stateOf core g)
     else record { number = refusalOf core g; core = core; regs = g }
+
+-- A step's answer with the core that it left.
+abbrev pub answered : Answer → List ℕ → Stepped
+answered r core = record { number = r .number; core = core; regs = r .regs }

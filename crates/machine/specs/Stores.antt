@@ -3,12 +3,14 @@ use Prim.Native.Nat.{ℕ, _+_, _*_}
 use mathlib.Core.Bool.{Bool, true, false}
 use lib.ListN.{length}
 use Rattle.machine.specs.declared.outcome.Cause.the-variants.{Presence}
-use Rattle.machine.specs.Outcomes.{Res, on, halt, _>>=_, if_then_else_}
+use Rattle.machine.specs.Outcomes.{Res, on, halt, _>>=_}
 use Rattle.machine.specs.States.{State, fillA, emptyA, emptyB, wordAt, store}
 use Rattle.machine.specs.Memory.{inCore, storeOf, kAddressOf}
 use Rattle.machine.specs.Stack.{aEmptyOf, aFullOf, bothFullOf}
 use Rattle.word.specs.Field.{field}
 use Rattle.word.specs.Layout.{flagOf, presenceOf, addressOf}
+use Rattle.word.specs.Choices.{if_then_else_}
+use Rattle.word.specs.Addresses.{cellAddress}
 
 -- "LITC: A empty, A:=k."
 unfoldable pub litcOf : State → ℕ → Res State
@@ -45,5 +47,5 @@ stdOf here st = do
 unfoldable pub comOf : State → Res State
 comOf st = do
   u ← aFullOf st
-  v ← storeOf u (64 * u .regs .r + 9) (u .regs .a)
+  v ← storeOf u (cellAddress (u .regs .r) 9) (u .regs .a)
   on (emptyA v)

@@ -16,7 +16,8 @@ ghost use lib.Signed.{quotZ, remZ};
 ghost use Rattle.word.specs.Field.{oneOf};
 ghost use Rattle.machine.specs.Outcomes.{_>>=_ as bind};
 ghost use Rattle.machine.specs.Arithmetics.{takenOf, givenOf, dividedOf, reckonOf, holds, twoOf};
-ghost use Rattle.machine.specs.Shapes.{partOf, wentOf, stateOf, binaryOf};
+ghost use Rattle.machine.specs.ForCode.Answers.{partOf, wentOf, binaryOf};
+ghost use Rattle.machine.specs.States.{stateOf};
 
 // A result as an operand, or that it is past 39 bits.
 pub fn given(v: i64) -> Part

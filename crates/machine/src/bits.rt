@@ -12,10 +12,11 @@ ghost use mathlib.Core.Bool.{not};
 ghost use Prim.Native.Nat.{_≤_};
 ghost use lib.ListN.{length};
 ghost use Rattle.machine.specs.Bits.{oneWordOf, twoWordsOf, topFlagOf, xchOf, dupOf, delOf, inxOf};
-ghost use Rattle.machine.specs.Shapes.{wentOf, stateOf, Does, joinOf, changeOf};
+ghost use Rattle.machine.specs.ForCode.Answers.{wentOf, Does, joinOf, changeOf};
 ghost use Rattle.word.specs.Field.{field, withField, oneOf};
 ghost use Rattle.word.specs.Layout.{flagOf, addressOf};
 ghost use Rattle.word.specs.Addresses.{sumOf};
+ghost use Rattle.machine.specs.States.{stateOf};
 
 // Bits 1-47, all on.
 const BODY: u64 = 140737488355327;

@@ -9,11 +9,12 @@ ghost use mathlib.Core.Path.{_≡_};
 ghost use mathlib.Core.List.{List};
 ghost use Prim.Native.Nat.{ℕ, _<_};
 ghost use Rattle.machine.specs.Branches.{landingOf, jumpOf, alwaysOf, ifOffOf};
-ghost use Rattle.machine.specs.Shapes.{spotOf, wentOf, stateOf};
+ghost use Rattle.machine.specs.ForCode.Answers.{spotSays, wentOf};
+ghost use Rattle.machine.specs.States.{stateOf};
 
 // Where a branch by d syllables from syllable n lands.
 pub fn landing(back: bool, n: u32, d: u16) -> Spot
-    ensures { λ r. ⌜ spotOf r ≡ landingOf back n d ⌝ }
+    ensures { λ r. ⌜ spotSays r ≡ landingOf back n d ⌝ }
 {
     let from = n as usize;
     let by = d as usize;

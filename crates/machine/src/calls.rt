@@ -19,17 +19,18 @@ ghost use mathlib.Core.Bool.{true};
 ghost use mathlib.Core.List.{List};
 ghost use Prim.Native.Nat.{ℕ, _≤_};
 ghost use lib.ListN.{length, getD};
-ghost use Rattle.machine.specs.Outcomes.{if_then_else_};
+ghost use Rattle.word.specs.Choices.{if_then_else_};
 ghost use Rattle.machine.specs.Calls.{indexOf, indexedOf, loadOf, dataCallOf, enterOf, programCallOf, leftOf, callOf, fetchedOf, callKOf};
-ghost use Rattle.machine.specs.Pushes.{framedOf, insideOf};
-ghost use Rattle.machine.specs.Shapes.{spotOf, wentOf, stateOf, Does};
+ghost use Rattle.machine.specs.ForCode.Pushes.{framedOf, enteredOf};
+ghost use Rattle.machine.specs.ForCode.Answers.{spotSays, wentOf, Does};
 ghost use Rattle.word.specs.Field.{withField};
 ghost use Rattle.word.specs.Layout.{addressOf};
 ghost use Rattle.word.specs.Addresses.{sumOf};
+ghost use Rattle.machine.specs.States.{stateOf};
 
 // The index that a word is, below size.
 pub fn index(w: u64, size: u16) -> Spot
-    ensures { λ r. ⌜ spotOf r ≡ indexOf w size ⌝ }
+    ensures { λ r. ⌜ spotSays r ≡ indexOf w size ⌝ }
 {
     let whole = word::whole_of(w);
     match whole {
@@ -140,7 +141,7 @@ fn frame(core: &mut [u64], desc: bool, argument: bool, g: Registers, p: usize, q
 
 // The registers after entry.
 fn inside(argument: bool, g: Registers, d: u64, s: u16) -> Registers
-    ensures { λ r. ⌜ r ≡ insideOf argument g d s ⌝ }
+    ensures { λ r. ⌜ r ≡ enteredOf argument g d s ⌝ }
 {
     let mut h = g;
     h.a = 0;

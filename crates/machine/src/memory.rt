@@ -8,10 +8,11 @@ ghost use Prim.Native.Nat.{ℕ, _≤_};
 ghost use mathlib.Core.List.{List};
 ghost use lib.ListN.{length, set};
 ghost use Rattle.machine.specs.Memory.{inCore, readOf, baseOf, patternOf, kAddressOf};
-ghost use Rattle.machine.specs.Shapes.{partOf, spotOf, stateOf, putOf};
+ghost use Rattle.machine.specs.ForCode.Answers.{partOf, spotSays, putOf};
+ghost use Rattle.machine.specs.States.{stateOf};
 
 pub fn in_core(len: usize, m: usize) -> Spot
-    ensures { λ r. ⌜ spotOf r ≡ inCore len m ⌝ }
+    ensures { λ r. ⌜ spotSays r ≡ inCore len m ⌝ }
 {
     if m < len {
         return Spot::At(m);
@@ -40,7 +41,7 @@ pub fn put(core: &mut [u64], live: bool, m: usize, w: u64)
 }
 
 pub fn base(core: &[u64], g: Registers) -> Spot
-    ensures { λ r. ⌜ spotOf r ≡ baseOf (stateOf (now (core .entry)) g) ⌝ }
+    ensures { λ r. ⌜ spotSays r ≡ baseOf (stateOf (now (core .entry)) g) ⌝ }
 {
     if g.msff {
         match read(core, 64 * g.r as usize + 7) {
@@ -56,7 +57,7 @@ pub fn base(core: &[u64], g: Registers) -> Spot
 }
 
 pub fn pattern(core: &[u64], here: u16, g: Registers, k: u16) -> Spot
-    ensures { λ r. ⌜ spotOf r ≡ patternOf here (stateOf (now (core .entry)) g) k ⌝ }
+    ensures { λ r. ⌜ spotSays r ≡ patternOf here (stateOf (now (core .entry)) g) k ⌝ }
 {
     let len = core.len();
     if k / 512 == 0 {
@@ -88,7 +89,7 @@ pub fn pattern(core: &[u64], here: u16, g: Registers, k: u16) -> Spot
 }
 
 pub fn k_address(core: &[u64], here: u16, g: Registers, k: u16) -> Spot
-    ensures { λ r. ⌜ spotOf r ≡ kAddressOf here (stateOf (now (core .entry)) g) k ⌝ }
+    ensures { λ r. ⌜ spotSays r ≡ kAddressOf here (stateOf (now (core .entry)) g) k ⌝ }
 {
     if g.salf {
         return pattern(core, here, g, k);

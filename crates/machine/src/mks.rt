@@ -12,8 +12,9 @@ ghost use mathlib.Core.Bool.{_&&_, not};
 ghost use Prim.Native.Nat.{_≤_};
 ghost use lib.ListN.{length};
 ghost use Rattle.machine.specs.Marks.{mksOf};
-ghost use Rattle.machine.specs.Pushes.{markedOf};
-ghost use Rattle.machine.specs.Shapes.{stateOf, Does};
+ghost use Rattle.machine.specs.ForCode.Pushes.{markedOf};
+ghost use Rattle.machine.specs.States.{stateOf};
+ghost use Rattle.machine.specs.ForCode.Answers.{Does};
 
 // SALF on and MSFF off: the mark stands at 64R+7 too.
 fn also(g: Registers) -> bool

@@ -3,12 +3,12 @@ use crate::memory::in_core;
 use crate::outcome::Spot;
 use crate::stack::slot;
 ghost use mathlib.Core.Path.{_≡_};
-ghost use Rattle.machine.specs.Pushes.{slotIf, inCoreIf, emptied as emptiedOf};
-ghost use Rattle.machine.specs.Shapes.{spotOf};
+ghost use Rattle.machine.specs.ForCode.Pushes.{slotIf, inCoreIf, emptied as emptiedOf};
+ghost use Rattle.machine.specs.ForCode.Answers.{spotSays};
 
 // S after a push that is made or not.
 pub fn slot_if(live: bool, len: usize, s: u16, r: u16) -> Spot
-    ensures { λ q. ⌜ spotOf q ≡ slotIf live len s r ⌝ }
+    ensures { λ q. ⌜ spotSays q ≡ slotIf live len s r ⌝ }
 {
     if live {
         return slot(len, s, r);
@@ -18,7 +18,7 @@ pub fn slot_if(live: bool, len: usize, s: u16, r: u16) -> Spot
 
 // An address that is looked at or not.
 pub fn in_core_if(live: bool, len: usize, m: usize) -> Spot
-    ensures { λ q. ⌜ spotOf q ≡ inCoreIf live len m ⌝ }
+    ensures { λ q. ⌜ spotSays q ≡ inCoreIf live len m ⌝ }
 {
     if live {
         return in_core(len, m);

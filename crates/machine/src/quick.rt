@@ -20,15 +20,17 @@ ghost use mathlib.Core.Bool.{true, false};
 ghost use mathlib.Core.List.{List};
 ghost use Prim.Native.Nat.{ℕ, _≤_, _<_};
 ghost use lib.ListN.{length};
-ghost use Rattle.machine.specs.Outcomes.{if_then_else_};
+ghost use Rattle.word.specs.Choices.{if_then_else_};
 ghost use Rattle.machine.specs.Stores.{litcOf, sndOf, stdOf};
 ghost use Rattle.machine.specs.Calls.{callOf, callKOf};
 ghost use Rattle.machine.specs.Branches.{ifOffOf};
 ghost use Rattle.machine.specs.Steps.{plain as plainOf, operateOf, performOf};
-ghost use Rattle.machine.specs.Shapes.{stateOf, partOf};
-ghost use Rattle.machine.specs.Sprints.{upon, underOf, elementOf, raised, quickly, Hurries, Left};
+ghost use Rattle.machine.specs.States.{stateOf};
+ghost use Rattle.machine.specs.ForCode.Answers.{partOf};
 ghost use Rattle.word.specs.Layout.{flagOf};
-ghost use Rattle.syllable.specs.Numbers.{tableOf, operatorAt, syllableAt};
+ghost use Rattle.syllable.specs.Numbers.{operatorNumbers};
+ghost use Rattle.machine.specs.ForCode.Sprints.{upon, underOf, elementOf, raised, quickly, Hurries, restOfRun};
+ghost use Rattle.syllable.specs.ForCode.Numbered.{operatorNumbered, syllableNumbered};
 
 // A word comes to A; where A and B are full, B would have to be pushed.
 fn filled(t: Hot, w: u64) -> Hurry
@@ -145,7 +147,7 @@ fn operand(core: &[u64], here: u16, g: Registers, t: Hot, k: u16) -> Hurry
 // Arithmetic and relations, both registers being full.
 fn both(t: Hot, n: u8) -> Hurry
     requires { ⌜ (1 ≤ n) × (n ≤ 11) ⌝ }
-    ensures { λ r. ⌜ ((core : List ℕ) (g : Registers) (here k : ℕ) → quickly core g r (operateOf here (operatorAt n k) (stateOf core (upon g t)))) ⌝ }
+    ensures { λ r. ⌜ ((core : List ℕ) (g : Registers) (here k : ℕ) → quickly core g r (operateOf here (operatorNumbered n k) (stateOf core (upon g t)))) ⌝ }
 {
     if t.afull & t.bfull {
         let w = match work(binary(n), t.b, t.a) {
@@ -240,7 +242,7 @@ fn turned(t: Hot, back: bool) -> Hurry
 // The syllable with operator number n and number k, where it is a common one.
 fn hurry(core: &mut [u64], here: u16, n: u8, k: u16, g: Registers, t: Hot) -> Hurry
     requires { ⌜ t .l < 4 ⌝ }
-    ensures { λ r. ⌜ Hurries (now (core .entry)) (now (core .exit)) g r (performOf here (syllableAt n k) (stateOf (now (core .entry)) (upon g t))) ⌝ }
+    ensures { λ r. ⌜ Hurries (now (core .entry)) (now (core .exit)) g r (performOf here (syllableNumbered n k) (stateOf (now (core .entry)) (upon g t))) ⌝ }
 {
     if n == 37 {
         return filled(t, k as u64);
@@ -279,8 +281,8 @@ fn joined(g: Registers, t: Hot) -> Registers
 
 // Common syllables, until one is not or the budget is spent.
 pub fn sprint(table: &[u8], core: &mut [u64], g: Registers, from: u64, budget: u64) -> Sprint
-    requires { ⌜ (from ≤ budget) × (now table ≡ tableOf) ⌝ }
-    ensures { λ r. ⌜ (from ≤ r .completed) × (r .completed ≤ budget) × (Left budget from (stateOf (now (core .entry)) g) ≡ Left budget (r .completed) (stateOf (now (core .exit)) (r .regs))) ⌝ }
+    requires { ⌜ (from ≤ budget) × (now table ≡ operatorNumbers) ⌝ }
+    ensures { λ r. ⌜ (from ≤ r .completed) × (r .completed ≤ budget) × (restOfRun budget from (stateOf (now (core .entry)) g) ≡ restOfRun budget (r .completed) (stateOf (now (core .exit)) (r .regs))) ⌝ }
 {
     let mut t = Hot {
         a: g.a,

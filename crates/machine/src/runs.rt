@@ -9,13 +9,13 @@ use crate::steps::number;
 ghost use mathlib.Core.Path.{_≡_};
 ghost use Prim.Native.Nat.{_≤_};
 ghost use lib.ListN.{length};
-ghost use Rattle.machine.specs.Runs.{runFrom, runOf};
-ghost use Rattle.machine.specs.Shapes.{stateOf, ranOf};
-ghost use Rattle.syllable.specs.Numbers.{tableOf};
+ghost use Rattle.machine.specs.Runs.{runFrom, runOf, ranOf};
+ghost use Rattle.machine.specs.States.{stateOf};
+ghost use Rattle.syllable.specs.Numbers.{operatorNumbers};
 
 // A sprint over the common syllables, then a full step for the next one. A fit state stays fit, so the checks are not made again.
 fn turns(table: &[u8], core: &mut [u64], g: Registers, budget: u64) -> Ran
-    requires { ⌜ (length (now core) ≤ 32768) × (now table ≡ tableOf) ⌝ }
+    requires { ⌜ (length (now core) ≤ 32768) × (now table ≡ operatorNumbers) ⌝ }
     ensures { λ r. ⌜ ranOf r (now (core .exit)) ≡ runFrom budget (stateOf (now (core .entry)) g) ⌝ }
 {
     let mut h = g;

@@ -10,11 +10,12 @@ ghost use mathlib.Core.Path.{_≡_};
 ghost use Prim.Native.Nat.{_≤_};
 ghost use lib.ListN.{length};
 ghost use Rattle.machine.specs.Stack.{slotOf, pushBOf, topOf, aEmptyOf, aFullOf, bFullOf, bothFullOf};
-ghost use Rattle.machine.specs.Shapes.{spotOf, partOf, wentOf, stateOf, Does};
+ghost use Rattle.machine.specs.ForCode.Answers.{spotSays, partOf, wentOf, Does};
+ghost use Rattle.machine.specs.States.{stateOf};
 
 // The address that a push writes.
 pub fn slot(len: usize, s: u16, r: u16) -> Spot
-    ensures { λ q. ⌜ spotOf q ≡ slotOf len s r ⌝ }
+    ensures { λ q. ⌜ spotSays q ≡ slotOf len s r ⌝ }
 {
     let up = s as usize + 1;
     if up / 64 == r as usize {

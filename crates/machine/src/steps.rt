@@ -34,12 +34,13 @@ ghost use mathlib.Core.Path.{_≡_};
 ghost use Prim.Native.Nat.{ℕ, _≤_, _<_};
 ghost use lib.ListN.{length};
 ghost use Rattle.machine.specs.Outcomes.{numberOf};
-ghost use Rattle.machine.specs.Steps.{plain as plainOf, operateOf, performOf, executeOf, stepOf};
-ghost use Rattle.machine.specs.States.{State};
+ghost use Rattle.machine.specs.Steps.{plain as plainOf, operateOf, performOf, executeOf, stepOf, answered};
+ghost use Rattle.machine.specs.States.{State, stateOf};
 ghost use Rattle.machine.specs.Arithmetics.{twoOf};
 ghost use Rattle.machine.specs.Bits.{twoWordsOf, oneWordOf};
-ghost use Rattle.machine.specs.Shapes.{stateOf, doneOf, plainAs, lastAs, answered, Ends, binaryOf, joinOf, changeOf};
-ghost use Rattle.syllable.specs.Numbers.{tableOf, operatorAt, syllableAt};
+ghost use Rattle.machine.specs.ForCode.Answers.{doneOf, plainAs, lastAs, Ends, binaryOf, joinOf, changeOf};
+ghost use Rattle.syllable.specs.Numbers.{operatorNumbers};
+ghost use Rattle.syllable.specs.ForCode.Numbered.{operatorNumbered, syllableNumbered};
 
 // The number of a cause.
 pub fn number(n: Cause) -> u64
@@ -78,7 +79,7 @@ fn last(w: Went) -> Done
 // The operator numbers 1 to 11, on two whole numbers.
 pub fn binary(n: u8) -> Binary
     requires { ⌜ (1 ≤ n) × (n ≤ 11) ⌝ }
-    ensures { λ r. ⌜ ((here k : ℕ) (st : State) → operateOf here (operatorAt n k) st ≡ plainOf (twoOf (binaryOf r) st)) ⌝ }
+    ensures { λ r. ⌜ ((here k : ℕ) (st : State) → operateOf here (operatorNumbered n k) st ≡ plainOf (twoOf (binaryOf r) st)) ⌝ }
 {
     match n {
         1 => Binary::Reckon(Arithmetic::Add),
@@ -98,7 +99,7 @@ pub fn binary(n: u8) -> Binary
 // The operator numbers 12 to 14, on two words.
 fn join(n: u8) -> Join
     requires { ⌜ (12 ≤ n) × (n ≤ 14) ⌝ }
-    ensures { λ r. ⌜ ((here k : ℕ) (st : State) → operateOf here (operatorAt n k) st ≡ plainOf (twoWordsOf (joinOf r) st)) ⌝ }
+    ensures { λ r. ⌜ ((here k : ℕ) (st : State) → operateOf here (operatorNumbered n k) st ≡ plainOf (twoWordsOf (joinOf r) st)) ⌝ }
 {
     match n {
         12 => Join::Lnd,
@@ -110,7 +111,7 @@ fn join(n: u8) -> Join
 // The operator numbers 15 to 20, on one word.
 fn change(n: u8) -> Change
     requires { ⌜ (15 ≤ n) × (n ≤ 20) ⌝ }
-    ensures { λ r. ⌜ ((here k : ℕ) (st : State) → operateOf here (operatorAt n k) st ≡ plainOf (oneWordOf (changeOf r) st)) ⌝ }
+    ensures { λ r. ⌜ ((here k : ℕ) (st : State) → operateOf here (operatorNumbered n k) st ≡ plainOf (oneWordOf (changeOf r) st)) ⌝ }
 {
     match n {
         15 => Change::Lng,
@@ -125,7 +126,7 @@ fn change(n: u8) -> Change
 // The operators that only work A and B.
 fn on_words(core: &[u64], here: u16, n: u8, k: u16, g: Registers) -> Done
     requires { ⌜ (1 ≤ n) × (n ≤ 20) ⌝ }
-    ensures { λ r. ⌜ doneOf (now (core .entry)) r ≡ operateOf here (operatorAt n k) (stateOf (now (core .entry)) g) ⌝ }
+    ensures { λ r. ⌜ doneOf (now (core .entry)) r ≡ operateOf here (operatorNumbered n k) (stateOf (now (core .entry)) g) ⌝ }
 {
     if n <= 11 {
         return plain(two(core, g, binary(n)));
@@ -139,7 +140,7 @@ fn on_words(core: &[u64], here: u16, n: u8, k: u16, g: Registers) -> Done
 // What the operator with number n does, from TOP on.
 fn operate(core: &mut [u64], here: u16, n: u8, k: u16, g: Registers) -> Done
     requires { ⌜ (length (now core) ≤ 32768) × (g .l < 4) × (21 ≤ n) ⌝ }
-    ensures { λ r. ⌜ Ends (now (core .entry)) (now (core .exit)) r (operateOf here (operatorAt n k) (stateOf (now (core .entry)) g)) ⌝ }
+    ensures { λ r. ⌜ Ends (now (core .entry)) (now (core .exit)) r (operateOf here (operatorNumbered n k) (stateOf (now (core .entry)) g)) ⌝ }
 {
     match n {
         21 => plain(top_flag(core, g)),
@@ -165,7 +166,7 @@ fn operate(core: &mut [u64], here: u16, n: u8, k: u16, g: Registers) -> Done
 // What the syllable with operator number n and number k does.
 fn perform(core: &mut [u64], here: u16, n: u8, k: u16, g: Registers) -> Done
     requires { ⌜ (length (now core) ≤ 32768) × (g .l < 4) ⌝ }
-    ensures { λ r. ⌜ Ends (now (core .entry)) (now (core .exit)) r (performOf here (syllableAt n k) (stateOf (now (core .entry)) g)) ⌝ }
+    ensures { λ r. ⌜ Ends (now (core .entry)) (now (core .exit)) r (performOf here (syllableNumbered n k) (stateOf (now (core .entry)) g)) ⌝ }
 {
     if (n == 38) | (n == 39) {
         return plain(call_k(core, n == 39, here, g, k));
@@ -184,7 +185,7 @@ fn perform(core: &mut [u64], here: u16, n: u8, k: u16, g: Registers) -> Done
 
 // One syllable of a fit state; the table is lent, since a constant table is built anew at every use.
 pub fn execute(table: &[u8], core: &mut [u64], g: Registers) -> Done
-    requires { ⌜ (length (now core) ≤ 32768) × (now table ≡ tableOf) ⌝ }
+    requires { ⌜ (length (now core) ≤ 32768) × (now table ≡ operatorNumbers) ⌝ }
     ensures { λ r. ⌜ Ends (now (core .entry)) (now (core .exit)) r (executeOf (stateOf (now (core .entry)) g)) ⌝ }
 {
     let w = match read(&core[..], g.c as usize) {

@@ -13,7 +13,8 @@ ghost use mathlib.Core.Path.{_≡_};
 ghost use Prim.Native.Nat.{_≤_};
 ghost use lib.ListN.{length};
 ghost use Rattle.machine.specs.Stores.{litcOf, placeOf, lodOf, sndOf, stdOf, comOf};
-ghost use Rattle.machine.specs.Shapes.{spotOf, wentOf, stateOf, Does};
+ghost use Rattle.machine.specs.ForCode.Answers.{spotSays, wentOf, Does};
+ghost use Rattle.machine.specs.States.{stateOf};
 
 pub fn litc(core: &mut [u64], g: Registers, k: u16) -> Went
     requires { ⌜ length (now core) ≤ 32768 ⌝ }
@@ -32,7 +33,7 @@ pub fn litc(core: &mut [u64], g: Registers, k: u16) -> Went
 }
 
 pub fn place(core: &[u64], here: u16, g: Registers, a: u64) -> Spot
-    ensures { λ r. ⌜ spotOf r ≡ placeOf here (stateOf (now (core .entry)) g) a ⌝ }
+    ensures { λ r. ⌜ spotSays r ≡ placeOf here (stateOf (now (core .entry)) g) a ⌝ }
 {
     if word::flag(a) {
         if word::presence(a) {

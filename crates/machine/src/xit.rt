@@ -7,7 +7,8 @@ use crate::outcome::Registers;
 use crate::outcome::Went;
 ghost use mathlib.Core.Path.{_≡_};
 ghost use Rattle.machine.specs.Marks.{controlOf, markAtOf, chainOf, restoreOf, leaveOf, xitOf};
-ghost use Rattle.machine.specs.Shapes.{partOf, wentOf, stateOf, Does};
+ghost use Rattle.machine.specs.ForCode.Answers.{partOf, wentOf, Does};
+ghost use Rattle.machine.specs.States.{stateOf};
 
 // A word whose flag is on.
 fn control(core: &[u64], m: usize) -> Part

@@ -8,11 +8,11 @@ use native.Mathlib.Omega.{arith}
 use borrow.Author.Tests.{eq-eqb, ne-eqb, eqb-true, le-leb, lt-leb, leb-true}
 use lib.Dec.{eqb, leb}
 use Rattle.machine.specs.declared.outcome.Registers.{Registers}
-use Rattle.machine.specs.Outcomes.{if_then_else_}
+use Rattle.word.specs.Choices.{if_then_else_}
 use Rattle.machine.specs.Steps.{refusalOf}
 use Rattle.machine.specs.Runs.{Run, runFrom, runOf}
 use Rattle.inspector.specs.declared.verdict.Verdict.{Verdict}
-use Rattle.inspector.specs.Sheets.{entries, codeOf, codeWordsOf, sOf, rOf, tableOf, sheetFits, recordGood}
+use Rattle.sheet.specs.Sheets.{entries, codeOf, codeWordsOf, sOf, rOf, tableOf}
 use Rattle.inspector.specs.Areas.{astray}
 use Rattle.inspector.specs.Cells.{unfit}
 use Rattle.inspector.specs.Scan.{breaksAt}
@@ -25,6 +25,7 @@ use Rattle.demands.specs.Leaves.{Leaves}
 use Rattle.demands.proofs.Checked.{run-leaves, start-passes}
 use Rattle.demands.proofs.Demand3.{demand3}
 use Rattle.post.specs.Posting.{Posting, turnedAway, ran, within, judged, postOf, Guarantees, Posts}
+use Rattle.inspector.specs.Records.{sheetFits, recordGood}
 
 -- ---- an answer of 0 is at place 0
 

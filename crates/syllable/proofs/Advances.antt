@@ -3,7 +3,7 @@
 use mathlib.Core.Path.{_≡_, refl}
 use Prim.Native.Nat.{ℕ, _+_, _*_, _<_}
 use native.Mathlib.Omega.{arith}
-use Rattle.syllable.specs.Places.{nextOf, advanceOf}
+use Rattle.syllable.specs.Positions.{nextOf, advanceOf}
 
 pub advance-last : advanceOf 32767 3 ≡ record { c = 0; l = 0 }
 advance-last = refl

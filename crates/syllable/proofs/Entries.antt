@@ -6,17 +6,17 @@ use Prim.Native.Nat.{ℕ, zero, suc, _+_, _%_, _<_}
 use native.Mathlib.Nat.{le-of-suc-le-suc, not-suc-le-zero}
 use native.Mathlib.Omega.{arith}
 use lib.ListN.{getD}
-use Rattle.syllable.specs.Numbers.{numberOf, numbersFrom, tableOf}
+use Rattle.syllable.specs.Numbers.{operatorNumber, numbersFrom, operatorNumbers}
 
-entry-from : (n y k : ℕ) → k < n → getD (numbersFrom n y) k 0 ≡ numberOf (y + k)
+entry-from : (n y k : ℕ) → k < n → getD (numbersFrom n y) k 0 ≡ operatorNumber (y + k)
 entry-from zero y k h = absurd (not-suc-le-zero h)
 entry-from (suc n) y zero h =
     let e : y ≡ y + 0 = omega arith in
-    ap numberOf e
+    ap operatorNumber e
 entry-from (suc n) y (suc k) h =
     let e : suc y + k ≡ y + suc k = omega arith in
-    entry-from n (suc y) k (le-of-suc-le-suc h) ∙ ap numberOf e
+    entry-from n (suc y) k (le-of-suc-le-suc h) ∙ ap operatorNumber e
 
-pub entry : (table : List ℕ) (y : ℕ) → table ≡ tableOf → getD table (y % 4096) 0 ≡ numberOf (y % 4096)
-unfolding tableOf
-entry table y e = ap (λ (t : List ℕ). getD t (y % 4096) 0) e ∙ entry-from 4096 0 (y % 4096) (omega arith) ∙ ap numberOf (omega arith)
+pub entry : (table : List ℕ) (y : ℕ) → table ≡ operatorNumbers → getD table (y % 4096) 0 ≡ operatorNumber (y % 4096)
+unfolding operatorNumbers
+entry table y e = ap (λ (t : List ℕ). getD t (y % 4096) 0) e ∙ entry-from 4096 0 (y % 4096) (omega arith) ∙ ap operatorNumber (omega arith)

@@ -3,7 +3,7 @@
 use mathlib.Core.Path.{_≡_}
 use Prim.Native.Nat.{ℕ, _+_, _*_, _-_, _/_, _%_, _≤_}
 use native.Mathlib.Omega.{arith}
-use Rattle.syllable.specs.Places.{syllableOf}
+use Rattle.syllable.specs.Positions.{syllableOf}
 
 pub last-twelve : (w l : ℕ) → 3 ≤ l → w / 1 % 4096 ≡ syllableOf w l
 unfolding syllableOf

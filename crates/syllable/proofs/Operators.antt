@@ -9,7 +9,7 @@ use lib.ListN.{length}
 use Rattle.syllable.specs.declared.Operator.{Operator}
 use Rattle.syllable.specs.declared.Operator.the-variants.{NotBuilt}
 use Rattle.syllable.specs.Codes.{listed}
-use Rattle.syllable.specs.Numbers.{operatorFrom, operatorAt}
+use Rattle.syllable.specs.ForCode.Numbered.{operatorFrom, operatorNumbered}
 
 past : (os : List Operator) (n k : ℕ) → length os ≤ n → NotBuilt k ≡ operatorFrom os n k
 past [] n k h = refl
@@ -27,6 +27,6 @@ over (suc j) n m h =
     let l : j < n = over j n (m .0) h in
     omega (arith, m .1)
 
-pub none-at : (n k : ℕ) → Misses 36 n → NotBuilt k ≡ operatorAt n k
+pub none-at : (n k : ℕ) → Misses 36 n → NotBuilt k ≡ operatorNumbered n k
 none-at zero k m = refl
 none-at (suc n) k m = past listed n k (le-of-suc-le-suc (over 36 (suc n) m (omega arith)))

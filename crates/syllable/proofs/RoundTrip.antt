@@ -9,14 +9,14 @@ use Rattle.syllable.specs.declared.Operator.{Operator}
 use Rattle.syllable.specs.declared.Operator.the-variants.{NotBuilt}
 use Rattle.syllable.specs.declared.Syllable.{Syllable}
 use Rattle.syllable.specs.declared.Syllable.the-variants.{Litc, Opdc, Desc, Operator as Operates}
-use Rattle.syllable.specs.Codes.{codeOf, listed}
-use Rattle.syllable.specs.Decoding.{kindOf, operatorIn, decodeAs, decodeOf}
+use Rattle.syllable.specs.Codes.{operatorCode, listed}
+use Rattle.syllable.specs.Decoding.{sortOf, operatorIn, decodeAs, decodeOf}
 use Rattle.syllable.specs.Encoding.{encodeOf, Unlisted, Proper, litc, opdc, desc, built, others}
 use Rattle.syllable.proofs.Finding.{Found, here, nowhere, found}
 
 -- the syllable that an operator's code is read as
 abbrev back : Operator → Syllable
-back o = decodeOf (codeOf o)
+back o = decodeOf (operatorCode o)
 
 -- antt reads the code of each listed operator, and compares
 listed-back : map back listed ≡ map Operates listed
@@ -31,7 +31,7 @@ back-at (x ∷ os) e (List·Memᴰ·tail m) =
     let b : map back os ≡ map Operates os = cc in
     back-at os b m
 
-by-bits : (k r : ℕ) → k < 1024 → r < 4 → decodeOf (4 * (k % 1024) + r) ≡ decodeAs (kindOf r) (4 * k + r)
+by-bits : (k r : ℕ) → k < 1024 → r < 4 → decodeOf (4 * (k % 1024) + r) ≡ decodeAs (sortOf r) (4 * k + r)
 unfolding decodeOf
 by-bits k r h b =
     let same : 4 * (k % 1024) + r ≡ 4 * k + r = omega arith in
@@ -53,11 +53,11 @@ decode-encode (Operates o) (built m) = back-at listed listed-back m
 decode-encode (Operates (NotBuilt k)) (others h u) =
     by-bits k 1 h (omega arith) ∙ ap Operates (unlisted-back k _ (operatorIn listed (4 * k + 1)) (found 1 listed (4 * k + 1)) u)
 
-code-found : (y p : ℕ) (o : Operator) → y < 4096 → y % 4 ≡ 1 → Found 1 listed y p o → codeOf o ≡ y
+code-found : (y p : ℕ) (o : Operator) → y < 4096 → y % 4 ≡ 1 → Found 1 listed y p o → operatorCode o ≡ y
 code-found y p o h b (here i m c l e f) = c
-code-found y p o h b (nowhere none e f) = ap codeOf f ∙ omega arith
+code-found y p o h b (nowhere none e f) = ap operatorCode f ∙ omega arith
 
-encode-as : (y r : ℕ) → y < 4096 → y % 4 ≡ r → encodeOf (decodeAs (kindOf r) y) ≡ y
+encode-as : (y r : ℕ) → y < 4096 → y % 4 ≡ r → encodeOf (decodeAs (sortOf r) y) ≡ y
 encode-as y zero h b = omega arith
 encode-as y (suc zero) h b = code-found y _ (operatorIn listed y) h b (found 1 listed y)
 encode-as y (suc (suc zero)) h b = omega arith
@@ -76,7 +76,7 @@ proper-found y p o h b (nowhere none e f) =
     let back : 4 * (y / 4) + 1 ≡ y = omega arith in
     subst⁻¹ (λ (x : Operator). Proper (Operates x)) f (others (omega arith) (subst⁻¹ Unlisted back none))
 
-proper-as : (y r : ℕ) → y < 4096 → y % 4 ≡ r → Proper (decodeAs (kindOf r) y)
+proper-as : (y r : ℕ) → y < 4096 → y % 4 ≡ r → Proper (decodeAs (sortOf r) y)
 proper-as y zero h b = litc (ten y h)
 proper-as y (suc zero) h b = proper-found y _ (operatorIn listed y) h b (found 1 listed y)
 proper-as y (suc (suc zero)) h b = opdc (ten y h)

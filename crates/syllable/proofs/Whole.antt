@@ -14,7 +14,7 @@ use Rattle.syllable.specs.declared.Branch.the-variants.{Bfw, Bbw, Bfc, B
 use Rattle.syllable.specs.declared.Operator.{Operator}
 use Rattle.syllable.specs.declared.Operator.the-variants.{Arithmetic, Relation, Logic, Branch, Mop, Mds, Ssp, Ssn, Chs, Top, Xch, Dup, Del, Nop, Lod, Std, Snd, Inx, Mks, Xit, Com, NotBuilt}
 use Rattle.syllable.specs.Codes.{listed}
-use Rattle.syllable.specs.Numbers.{operatorFrom}
+use Rattle.syllable.specs.ForCode.Numbered.{operatorFrom}
 
 member : (os : List Operator) (i : ℕ) → i < length os → List·Memᴰ (operatorFrom os i 0) os
 member [] i h = absurd (not-suc-le-zero h)

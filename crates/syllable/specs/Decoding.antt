@@ -8,30 +8,30 @@ use Rattle.syllable.specs.declared.Operator.{Operator}
 use Rattle.syllable.specs.declared.Operator.the-variants.{NotBuilt}
 use Rattle.syllable.specs.declared.Syllable.{Syllable}
 use Rattle.syllable.specs.declared.Syllable.the-variants.{Litc, Opdc, Desc, Operator as Operates}
-use Rattle.syllable.specs.Codes.{codeOf, listed}
+use Rattle.syllable.specs.Codes.{operatorCode, listed}
 
-pub data Kind : Type 0 where
-  literal operator operandCall descriptorCall : Kind
+pub data Sort : Type 0 where
+  literal operator operandCall descriptorCall : Sort
 
 -- "A syllable is read as a literal, an operand call, a descriptor call or an operator, by its last two bits 00, 10, 11, 01":
 -- of the number that those two bits make
-abbrev pub kindOf : ℕ → Kind
-kindOf zero = literal
-kindOf (suc zero) = operator
-kindOf (suc (suc zero)) = operandCall
-kindOf (suc (suc (suc n))) = descriptorCall
+abbrev pub sortOf : ℕ → Sort
+sortOf zero = literal
+sortOf (suc zero) = operator
+sortOf (suc (suc zero)) = operandCall
+sortOf (suc (suc (suc n))) = descriptorCall
 
 -- the operator of a list whose code is y; "Others" are not built
 abbrev pub operatorIn : List Operator → ℕ → Operator
 operatorIn [] y = NotBuilt (y / 4)
-operatorIn (o ∷ os) y = elim (eqb (codeOf o) y) [ true ↦ o | false ↦ operatorIn os y ]
+operatorIn (o ∷ os) y = elim (eqb (operatorCode o) y) [ true ↦ o | false ↦ operatorIn os y ]
 
 -- "the first ten bits are its number k"
-abbrev pub decodeAs : Kind → ℕ → Syllable
+abbrev pub decodeAs : Sort → ℕ → Syllable
 decodeAs literal y = Litc (y / 4)
 decodeAs operandCall y = Opdc (y / 4)
 decodeAs descriptorCall y = Desc (y / 4)
 decodeAs operator y = Operates (operatorIn listed y)
 
 unfoldable pub decodeOf : ℕ → Syllable
-decodeOf y = decodeAs (kindOf (y % 4)) y
+decodeOf y = decodeAs (sortOf (y % 4)) y

@@ -7,18 +7,18 @@ use Rattle.syllable.specs.declared.Operator.{Operator}
 use Rattle.syllable.specs.declared.Operator.the-variants.{NotBuilt}
 use Rattle.syllable.specs.declared.Syllable.{Syllable}
 use Rattle.syllable.specs.declared.Syllable.the-variants.{Litc, Opdc, Desc, Operator as Operates}
-use Rattle.syllable.specs.Codes.{codeOf, listed}
+use Rattle.syllable.specs.Codes.{operatorCode, listed}
 
 -- "by its last two bits 00, 10, 11, 01; the first ten bits are its number k": ten bits, so k is taken modulo 1,024
 abbrev pub encodeOf : Syllable → ℕ
 encodeOf (Litc k) = 4 * (k % 1024)
 encodeOf (Opdc k) = 4 * (k % 1024) + 2
 encodeOf (Desc k) = 4 * (k % 1024) + 3
-encodeOf (Operates o) = codeOf o
+encodeOf (Operates o) = operatorCode o
 
 -- y is the code of no listed operator
 abbrev pub Unlisted : ℕ → Type 0
-Unlisted y = (o : Operator) → List·Memᴰ o listed → codeOf o ≡ y → ⊥
+Unlisted y = (o : Operator) → List·Memᴰ o listed → operatorCode o ≡ y → ⊥
 
 -- a number k of ten bits; an operator that is listed; or one that is not built, with the number of a code that is not listed
 pub data Proper : Syllable → Type 0 where

@@ -2,4 +2,5 @@ pub mod Codes
 pub mod Decoding
 pub mod Encoding
 pub mod Numbers
-pub mod Places
+pub mod Positions
+pub mod ForCode

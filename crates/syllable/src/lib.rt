@@ -5,11 +5,12 @@ mod table;
 use table::NUMBERS;
 ghost use mathlib.Core.Path.{_≡_};
 ghost use Prim.Native.Nat.{_%_};
-ghost use Rattle.syllable.specs.Codes.{codeOf};
+ghost use Rattle.syllable.specs.Codes.{operatorCode};
 ghost use Rattle.syllable.specs.Decoding.{decodeOf};
 ghost use Rattle.syllable.specs.Encoding.{encodeOf};
-ghost use Rattle.syllable.specs.Numbers.{numberOf, tableOf, operatorAt};
-ghost use Rattle.syllable.specs.Places.{syllableOf, advanceOf};
+ghost use Rattle.syllable.specs.Numbers.{operatorNumber, operatorNumbers};
+ghost use Rattle.syllable.specs.Positions.{syllableOf, advanceOf};
+ghost use Rattle.syllable.specs.ForCode.Numbered.{operatorNumbered};
 
 pub enum Arithmetic {
     Add,
@@ -76,21 +77,21 @@ pub enum Syllable {
 }
 
 // Where a syllable stands: in the word at c, the l-th.
-pub struct Place {
+pub struct Position {
     pub c: u16,
     pub l: u8,
 }
 
 // The whole table. A constant is built anew at every use, so a run makes it once and lends it.
 pub fn numbers() -> [u8; 4096]
-    ensures { λ r. ⌜ r ≡ tableOf ⌝ }
+    ensures { λ r. ⌜ r ≡ operatorNumbers ⌝ }
 {
     NUMBERS
 }
 
 // The operator number of a syllable, from the table.
 pub fn number(y: u16) -> u8
-    ensures { λ r. ⌜ r ≡ numberOf (y % 4096) ⌝ }
+    ensures { λ r. ⌜ r ≡ operatorNumber (y % 4096) ⌝ }
 {
     let table = numbers();
     let i = (y % 4096) as usize;
@@ -99,7 +100,7 @@ pub fn number(y: u16) -> u8
 
 // The operator of a number, and of k where the number is none of the 36.
 fn operator_at(n: u8, k: u16) -> Operator
-    ensures { λ r. ⌜ r ≡ operatorAt n k ⌝ }
+    ensures { λ r. ⌜ r ≡ operatorNumbered n k ⌝ }
 {
     match n {
         1 => Operator::Arithmetic(Arithmetic::Add),
@@ -157,7 +158,7 @@ pub fn decode(y: u16) -> Syllable
 
 // The syllable of an operator.
 fn code(o: Operator) -> u16
-    ensures { λ r. ⌜ r ≡ codeOf o ⌝ }
+    ensures { λ r. ⌜ r ≡ operatorCode o ⌝ }
 {
     match o {
         Operator::Arithmetic(a) => match a {
@@ -232,11 +233,11 @@ pub fn syllable_at(w: u64, l: u8) -> u16
 }
 
 // The place of the next syllable.
-pub fn advance(c: u16, l: u8) -> Place
+pub fn advance(c: u16, l: u8) -> Position
     ensures { λ r. ⌜ r ≡ advanceOf c l ⌝ }
 {
     let n = (4 * c as u32 + l as u32 + 1) % 131072;
-    Place {
+    Position {
         c: (n / 4) as u16,
         l: (n % 4) as u8,
     }

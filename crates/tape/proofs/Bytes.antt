@@ -10,7 +10,7 @@ use lib.ListN.{length, take, drop, getD, set, length-append}
 use lib.Seq.{sets-eq, length-take-le, take-suc, take-at, take-all}
 use Rattle.word.specs.Digits.{digits}
 use Rattle.word.proofs.Places.{digits-length}
-use Rattle.tape.specs.Files.{bytesOf, writeNumberOf, writeOf}
+use Rattle.tape.specs.Files.{bytesOf, writeNumberOf, writeFileOf}
 
 pub six-stored : (room : List ℕ) (at w : ℕ) → at + 6 ≤ length room
     → set (set (set (set (set (set room at (w / 1099511627776 % 256)) (at + 1) (w / 4294967296 % 256)) (at + 2) (w / 16777216 % 256)) (at + 3) (w / 65536 % 256)) (at + 4) (w / 256 % 256)) (at + 5) (w % 256)
@@ -60,10 +60,10 @@ spread-end core room i h k l e =
 
 -- ---- a core is written, or nothing is
 
-pub write-yes : (core room : List ℕ) {new : List ℕ} → writeNumberOf core (length room) ≡ 0 → new ≡ bytesOf core → new ≡ writeOf core room
-unfolding writeOf
+pub write-yes : (core room : List ℕ) {new : List ℕ} → writeNumberOf core (length room) ≡ 0 → new ≡ bytesOf core → new ≡ writeFileOf core room
+unfolding writeFileOf
 write-yes core room z e = rw (eq-eqb (writeNumberOf core (length room)) 0 z) e
 
-pub write-no : (core room : List ℕ) → (writeNumberOf core (length room) ≡ 0 → ⊥) → room ≡ writeOf core room
-unfolding writeOf
+pub write-no : (core room : List ℕ) → (writeNumberOf core (length room) ≡ 0 → ⊥) → room ≡ writeFileOf core room
+unfolding writeFileOf
 write-no core room n = rw (ne-eqb (writeNumberOf core (length room)) 0 n)

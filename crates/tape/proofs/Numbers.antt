@@ -8,7 +8,8 @@ use borrow.Author.Tests.{lt-ltb, le-ltb, le-leb, lt-leb, eq-eqb, ne-eqb, ltb-tru
 use lib.Dec.{eqb, ltb, leb}
 use lib.ListN.{length}
 use Rattle.word.specs.Core.{lengthFits, wordsFit}
-use Rattle.tape.specs.Files.{choose, readNumberOf, writeNumberOf}
+use Rattle.tape.specs.Files.{readNumberOf, writeNumberOf}
+use Rattle.word.specs.Choices.{choose}
 
 -- ---- reading
 

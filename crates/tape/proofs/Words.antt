@@ -8,7 +8,7 @@ use borrow.Author.Tests.{eq-eqb, ne-eqb}
 use lib.ListN.{length, take, drop, getD, set}
 use lib.Seq.{drop-cons, drop-drop, take-suc-set, take-all}
 use Rattle.word.specs.Digits.{numeral}
-use Rattle.tape.specs.Files.{wordsOf, readNumberOf, readOf}
+use Rattle.tape.specs.Files.{wordsOf, readNumberOf, readFileOf}
 
 -- The six bytes from `at` on, one by one.
 six-bytes : (bytes : List ℕ) (at : ℕ) → at + 6 ≤ length bytes
@@ -55,10 +55,10 @@ fill-end bytes core i n l h m e =
 
 -- ---- a file is read, or nothing is written
 
-pub read-yes : (bytes core : List ℕ) {new : List ℕ} → readNumberOf bytes (length core) ≡ 0 → new ≡ wordsOf (length core) bytes → new ≡ readOf bytes core
-unfolding readOf
+pub read-yes : (bytes core : List ℕ) {new : List ℕ} → readNumberOf bytes (length core) ≡ 0 → new ≡ wordsOf (length core) bytes → new ≡ readFileOf bytes core
+unfolding readFileOf
 read-yes bytes core z e = rw (eq-eqb (readNumberOf bytes (length core)) 0 z) e
 
-pub read-no : (bytes core : List ℕ) → (readNumberOf bytes (length core) ≡ 0 → ⊥) → core ≡ readOf bytes core
-unfolding readOf
+pub read-no : (bytes core : List ℕ) → (readNumberOf bytes (length core) ≡ 0 → ⊥) → core ≡ readFileOf bytes core
+unfolding readFileOf
 read-no bytes core n = rw (ne-eqb (readNumberOf bytes (length core)) 0 n)

@@ -5,6 +5,7 @@ use mathlib.Core.Bool.{Bool, true, false, _&&_}
 use mathlib.Core.List.{List, [], _∷_, _++_}
 use lib.Dec.{eqb, ltb, leb}
 use lib.ListN.{length, take, drop}
+use Rattle.word.specs.Choices.{choose}
 use Rattle.word.specs.Core.{lengthFits, wordsFit}
 use Rattle.word.specs.Digits.{digits, numeral}
 
@@ -18,10 +19,6 @@ unfoldable pub bytesOf : List ℕ → List ℕ
 bytesOf [] = []
 bytesOf (w ∷ ws) = digits 256 6 w ++ bytesOf ws
 
-abbrev pub choose : {A : Type 0} → Bool → A → A → A
-choose true x y = x
-choose false x y = y
-
 -- "Reading a core file checks 4, then 1, into a core of its exact word count, else 1"
 unfoldable pub readNumberOf : List ℕ → ℕ → ℕ
 readNumberOf bytes count =
@@ -30,23 +27,23 @@ readNumberOf bytes count =
     4
 
 -- "a refusal writes nothing"
-unfoldable pub readOf : List ℕ → List ℕ → List ℕ
-readOf bytes core = choose (eqb (readNumberOf bytes (length core)) 0) (wordsOf (length core) bytes) core
+unfoldable pub readFileOf : List ℕ → List ℕ → List ℕ
+readFileOf bytes core = choose (eqb (readNumberOf bytes (length core)) 0) (wordsOf (length core) bytes) core
 
 -- "Writing needs room of exactly six bytes a word, else 4, after 1 and 2."
 unfoldable pub writeNumberOf : List ℕ → ℕ → ℕ
 writeNumberOf core room =
     choose (lengthFits core) (choose (wordsFit core) (choose (eqb room (6 * length core)) 0 4) 2) 1
 
-unfoldable pub writeOf : List ℕ → List ℕ → List ℕ
-writeOf core room = choose (eqb (writeNumberOf core (length room)) 0) (bytesOf core) room
+unfoldable pub writeFileOf : List ℕ → List ℕ → List ℕ
+writeFileOf core room = choose (eqb (writeNumberOf core (length room)) 0) (bytesOf core) room
 
 -- What reading a file into a core (`old`, then `new`) leaves, and the number that it answers.
 pub record FileRead (bytes old new : List ℕ) (r : ℕ) : Type 0 where
   pub number : r ≡ readNumberOf bytes (length old)
-  pub core : new ≡ readOf bytes old
+  pub core : new ≡ readFileOf bytes old
 
 -- What writing a core to room (`old`, then `new`) leaves, and the number that it answers.
 pub record FileWritten (core old new : List ℕ) (r : ℕ) : Type 0 where
   pub number : r ≡ writeNumberOf core (length old)
-  pub room : new ≡ writeOf core old
+  pub room : new ≡ writeFileOf core old

@@ -7,11 +7,12 @@ use borrow.Author.Tests.{eq-eqb, ne-eqb, le-leb, lt-leb}
 use lib.ListN.{length, take, drop, replicate}
 use lib.Seq.{length-take-le}
 use Rattle.machine.specs.Runs.{runOf}
-use Rattle.tape.specs.Files.{wordsOf, readNumberOf, readOf, FileRead}
+use Rattle.tape.specs.Files.{wordsOf, readNumberOf, readFileOf, FileRead}
 use Rattle.trial.specs.declared.trials.Sum.{Sum}
 use Rattle.trial.specs.declared.trials.Outcome.{Outcome}
 use Rattle.trial.specs.declared.trials.Outcome.the-variants.{Refused, Ended}
-use Rattle.trial.specs.Trials.{refusedOf, filledOf, start, sumOf, trialOf, Loaded, Told}
+use Rattle.trial.specs.Trials.{refusedOf, filledOf, start, summaryOf, trialOf, Told}
+use Rattle.trial.specs.ForCode.Loads.{Loaded}
 
 -- ---- the tests of a file
 
@@ -30,7 +31,7 @@ lent {total} core l m = length-take-le (total / 6) core (omega arith)
 
 -- What a 0 leaves of the lent words.
 read-words : {bytes old new : List ℕ} {n r : ℕ} → length old ≡ n → FileRead bytes old new r → r ≡ 0 → new ≡ wordsOf n bytes
-unfolding readOf
+unfolding readFileOf
 read-words {bytes} {old} {new} {n} {r} l f z =
     f .core ∙ rw (eq-eqb (readNumberOf bytes (length old)) 0 (sym (f .number) ∙ z), l)
 
@@ -67,4 +68,4 @@ unfolding trialOf filledOf
 trial-ended {bytes} {old} {new} {last} {total} {r} {s} o l z t =
     let core : new ≡ wordsOf (total / 6) bytes ++ replicate (4096 - total / 6) 0 =
     l .core z ∙ ap (λ (x : List ℕ). wordsOf (total / 6) bytes ++ x) (ap (λ (x : List ℕ). drop (total / 6) x) o ∙ drop-replicate (total / 6) 4096 0) in
-    rw (eq-eqb (refusedOf bytes total) 0 (sym (l .number) ∙ z)) (ap Ended (t .sum) ∙ ap (λ (x : List ℕ). Ended (sumOf (runOf x start 1000))) core)
+    rw (eq-eqb (refusedOf bytes total) 0 (sym (l .number) ∙ z)) (ap Ended (t .sum) ∙ ap (λ (x : List ℕ). Ended (summaryOf (runOf x start 1000))) core)

@@ -8,7 +8,7 @@ use native.Mathlib.Numerals.{add-one}
 use borrow.Author.Tests.{eq-eqb, ne-eqb}
 use lib.ListN.{length, getD, take, drop, set, length-set, length-append, length-drop, drop-of-length-le}
 use lib.Seq.{drop-cons, take-all, length-take-le}
-use Rattle.word.specs.Digits.{digits, byteBase, writtenOf}
+use Rattle.word.specs.Digits.{digits, byteBase, toDigitsOf}
 use Rattle.word.proofs.Places.{digits-length}
 use Rattle.trial.specs.declared.trials.Sum.{Sum}
 use Rattle.trial.specs.declared.trials.Outcome.{Outcome}
@@ -88,15 +88,15 @@ leading-end ds i h e = omega (arith, e, short (drop i ds) (omega (arith, length-
 
 -- ---- the digits of a number, spelled
 
-written-ten : (n : ℕ) (old : List ℕ) → writtenOf 10 n old ≡ digits 10 (length old) n
-unfolding writtenOf byteBase
+written-ten : (n : ℕ) (old : List ℕ) → toDigitsOf 10 n old ≡ digits 10 (length old) n
+unfolding toDigitsOf byteBase
 written-ten n old = refl
 
-written-eight : (n : ℕ) (old : List ℕ) → writtenOf 8 n old ≡ digits 8 (length old) n
-unfolding writtenOf byteBase
+written-eight : (n : ℕ) (old : List ℕ) → toDigitsOf 8 n old ≡ digits 8 (length old) n
+unfolding toDigitsOf byteBase
 written-eight n old = refl
 
-pub decimal-said : {old new ds : List ℕ} {at k r : ℕ} (zeros : List ℕ) (n c : ℕ) → length zeros ≡ 20 → ds ≡ writtenOf 10 n zeros → k ≡ leadingOf ds
+pub decimal-said : {old new ds : List ℕ} {at k r : ℕ} (zeros : List ℕ) (n c : ℕ) → length zeros ≡ 20 → ds ≡ toDigitsOf 10 n zeros → k ≡ leadingOf ds
     → Written old at (spelledOf (take (20 - k) (drop k ds)) c) new r → (Written old at (decimalOf n c) new r) × (r ≤ at + 21)
 unfolding decimalOf
 decimal-said {old} {new} {ds} {at} {k} {r} zeros n c z d e w =
@@ -108,7 +108,7 @@ decimal-said {old} {new} {ds} {at} {k} {r} zeros n c z d e w =
       omega (arith, w .next, spelled-length (take (20 - k) (drop k ds)) c, ap length rest, length-drop k ds, long),
     )
 
-pub octal-said : {old new ds : List ℕ} {at r : ℕ} (zeros : List ℕ) (n c : ℕ) → length zeros ≡ 16 → ds ≡ writtenOf 8 n zeros
+pub octal-said : {old new ds : List ℕ} {at r : ℕ} (zeros : List ℕ) (n c : ℕ) → length zeros ≡ 16 → ds ≡ toDigitsOf 8 n zeros
     → Written old at (spelledOf ds c) new r → (Written old at (octalOf n c) new r) × (r ≤ at + 17)
 unfolding octalOf
 octal-said {old} {new} {ds} {at} {r} zeros n c z d w =

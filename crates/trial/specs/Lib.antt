@@ -1,2 +1,3 @@
 pub mod Trials
 pub mod Lines
+pub mod ForCode

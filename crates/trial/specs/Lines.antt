@@ -4,7 +4,7 @@ use mathlib.Core.Path.{_≡_}
 use mathlib.Core.List.{List, [], _∷_, _++_}
 use lib.Dec.{eqb}
 use lib.ListN.{length, drop, set}
-use Rattle.tape.specs.Files.{choose}
+use Rattle.word.specs.Choices.{choose}
 use Rattle.word.specs.Digits.{digits}
 use Rattle.trial.specs.declared.trials.Sum.{Sum}
 use Rattle.trial.specs.declared.trials.Outcome.{Outcome}

@@ -7,10 +7,11 @@ use lib.Dec.{eqb, leb}
 use lib.ListN.{getD, drop, replicate}
 use Rattle.machine.specs.declared.outcome.Registers.{Registers}
 use Rattle.machine.specs.Runs.{Run, runOf}
-use Rattle.tape.specs.Files.{choose, wordsOf, readNumberOf}
+use Rattle.tape.specs.Files.{wordsOf, readNumberOf}
 use Rattle.trial.specs.declared.trials.Sum.{Sum}
 use Rattle.trial.specs.declared.trials.Outcome.{Outcome}
 use Rattle.trial.specs.declared.trials.Outcome.the-variants.{Refused, Ended}
+use Rattle.word.specs.Choices.{choose}
 
 -- Why an input is refused, or 0: 4 by its whole length, then "over 4,096 words is 1", then as a core file is.
 unfoldable pub refusedOf : List ℕ → ℕ → ℕ
@@ -25,22 +26,17 @@ abbrev pub start : Registers
 start = record { a = 0; afull = false; b = 0; bfull = false; s = 31; f = 0; c = 0; r = 1; l = 0; salf = false; msff = false }
 
 -- What is told of a run: the stop, the syllables completed, C, L, S and the word at 64 + 9.
-abbrev pub sumOf : Run → Sum
-sumOf r = record { stop = r .stop; completed = r .completed; c = r .regs .c; l = r .regs .l; s = r .regs .s; cell = getD (r .core) 73 0 }
+abbrev pub summaryOf : Run → Sum
+summaryOf r = record { stop = r .stop; completed = r .completed; c = r .regs .c; l = r .regs .l; s = r .regs .s; cell = getD (r .core) 73 0 }
 
 -- "A refused file prints its number"; any other runs with a budget of 1,000.
 unfoldable pub trialOf : List ℕ → ℕ → Outcome
 trialOf bytes total =
     choose (eqb (refusedOf bytes total) 0)
-    (Ended (sumOf (runOf (filledOf bytes (total / 6)) start 1000)))
+    (Ended (summaryOf (runOf (filledOf bytes (total / 6)) start 1000)))
     (Refused (refusedOf bytes total))
-
--- What loading a file into a core (`old`, then `new`) answers, and leaves where it is not refused.
-pub record Loaded (bytes : List ℕ) (total : ℕ) (old new : List ℕ) (r : ℕ) : Type 0 where
-  pub number : r ≡ refusedOf bytes total
-  pub core : r ≡ 0 → new ≡ wordsOf (total / 6) bytes ++ drop (total / 6) old
 
 -- What a run of a core (`old`, then `new`) from the start tells and leaves.
 pub record Told (old : List ℕ) (budget : ℕ) (new : List ℕ) (r : Sum) : Type 0 where
-  pub sum : r ≡ sumOf (runOf old start budget)
+  pub sum : r ≡ summaryOf (runOf old start budget)
   pub core : new ≡ runOf old start budget .core

@@ -2,7 +2,8 @@
 use machine::Registers;
 ghost use mathlib.Core.Path.{_≡_};
 ghost use lib.ListN.{length};
-ghost use Rattle.trial.specs.Trials.{Loaded, Told, trialOf};
+ghost use Rattle.trial.specs.Trials.{Told, trialOf};
+ghost use Rattle.trial.specs.ForCode.Loads.{Loaded};
 
 // What a run leaves: the stop, the syllables completed, C, L, S and cell 9.
 pub struct Sum {

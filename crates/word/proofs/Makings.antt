@@ -6,6 +6,7 @@ use native.Mathlib.Omega.{arith}
 use borrow.Author.Tests.{eq-eqb, ne-eqb}
 use Rattle.word.specs.Field.{field, bit, oneOf}
 use Rattle.word.specs.Layout.{flagOf, presenceOf, sizeOf, addressOf, dataOf, modeOf, argumentOf, fFieldOf, programOf, mscwROf, mscwMsffOf, mscwSalfOf, mscwOf, rcwCallOf, rcwLOf, rcwCOf, rcwOf}
+use Rattle.word.specs.Backs.{DataBack, ProgramBack, MscwBack, RcwBack}
 
 pub one-lt : (b : Bool) → oneOf b < 2
 one-lt true = omega arith
@@ -16,13 +17,6 @@ pub bit-is : (b : Bool) (w n : ℕ) → field w n n ≡ oneOf b → bit w n ≡ 
 bit-is true w n e = eq-eqb (field w n n) 1 e
 bit-is false w n e = ne-eqb (field w n n) 1 (omega arith)
 
-pub record DataBack (p : Bool) (s a w : ℕ) : Type 0 where
-  pub flag : flagOf w ≡ true
-  pub second : bit w 1 ≡ false
-  pub presence : presenceOf w ≡ p
-  pub size : sizeOf w ≡ s % 1024
-  pub address : addressOf w ≡ a % 32768
-
 pub data-back : (p : Bool) (s a : ℕ) → DataBack p s a (dataOf p s a)
 data-back p s a =
     record {
@@ -32,16 +26,6 @@ data-back p s a =
       size = omega (arith, one-lt p);
       address = omega (arith, one-lt p);
     }
-
-pub record ProgramBack (p m g : Bool) (f a w : ℕ) : Type 0 where
-  pub flag : flagOf w ≡ true
-  pub second : bit w 1 ≡ true
-  pub third : bit w 3 ≡ true
-  pub presence : presenceOf w ≡ p
-  pub mode : modeOf w ≡ m
-  pub argument : argumentOf w ≡ g
-  pub field-f : fFieldOf w ≡ f % 32768
-  pub address : addressOf w ≡ a % 32768
 
 pub program-back : (p m g : Bool) (f a : ℕ) → ProgramBack p m g f a (programOf p m g f a)
 program-back p m g f a =
@@ -56,15 +40,6 @@ program-back p m g f a =
       address = omega (arith, one-lt p, one-lt m, one-lt g);
     }
 
-pub record MscwBack (r : ℕ) (m s : Bool) (f w : ℕ) : Type 0 where
-  pub flag : flagOf w ≡ true
-  pub second : bit w 1 ≡ true
-  pub third : bit w 3 ≡ false
-  pub field-r : mscwROf w ≡ r % 512
-  pub msff : mscwMsffOf w ≡ m
-  pub salf : mscwSalfOf w ≡ s
-  pub field-f : fFieldOf w ≡ f % 32768
-
 pub mscw-back : (r : ℕ) (m s : Bool) (f : ℕ) → MscwBack r m s f (mscwOf r m s f)
 mscw-back r m s f =
     record {
@@ -76,15 +51,6 @@ mscw-back r m s f =
       salf = bit-is s (mscwOf r m s f) 17 (omega (arith, one-lt m, one-lt s));
       field-f = omega (arith, one-lt m, one-lt s);
     }
-
-pub record RcwBack (d : Bool) (l f c w : ℕ) : Type 0 where
-  pub flag : flagOf w ≡ true
-  pub second : bit w 1 ≡ true
-  pub third : bit w 3 ≡ false
-  pub call : rcwCallOf w ≡ d
-  pub field-l : rcwLOf w ≡ l % 4
-  pub field-f : fFieldOf w ≡ f % 32768
-  pub field-c : rcwCOf w ≡ c % 32768
 
 pub rcw-back : (d : Bool) (l f c : ℕ) → RcwBack d l f c (rcwOf d l f c)
 rcw-back d l f c =

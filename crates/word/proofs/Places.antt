@@ -13,7 +13,7 @@ use lib.ListN.{length, getD, drop, set, length-set, length-drop, drop-of-length-
 use lib.Seq.{drop-cons, getD-set-same, drop-set-lt, drop-length}
 use mir.Syntax.{w8, w64}
 use mir.Val.{Fits}
-use Rattle.word.specs.Digits.{digits, numeral, below, byteBase, writtenOf, readBy, readOf}
+use Rattle.word.specs.Digits.{digits, numeral, below, byteBase, toDigitsOf, readBy, fromDigitsOf}
 use Rattle.word.specs.declared.digits.Reading.{Reading}
 use Rattle.word.specs.declared.digits.Reading.the-variants.{Number, Refused}
 
@@ -150,18 +150,18 @@ base-in base e = (leb-true 2 base (first (leb 2 base) (leb base 256) e), leb-tru
     second true b e = e
     second false b e = absurd (false≢true e)
 
-pub written-yes : (base n : ℕ) (old : List ℕ) {new : List ℕ} → byteBase base ≡ true → new ≡ digits base (length old) n → new ≡ writtenOf base n old
-unfolding writtenOf
+pub written-yes : (base n : ℕ) (old : List ℕ) {new : List ℕ} → byteBase base ≡ true → new ≡ digits base (length old) n → new ≡ toDigitsOf base n old
+unfolding toDigitsOf
 written-yes base n old e d = rw e d
 
-pub written-no : (base n : ℕ) (old : List ℕ) → byteBase base ≡ false → old ≡ writtenOf base n old
-unfolding writtenOf
+pub written-no : (base n : ℕ) (old : List ℕ) → byteBase base ≡ false → old ≡ toDigitsOf base n old
+unfolding toDigitsOf
 written-no base n old e = rw e
 
-pub read-yes : (base : ℕ) (ds : List ℕ) {r : Reading} → byteBase base ≡ true → r ≡ readBy true (ltb (numeral base ds) (2 ^ 48)) (numeral base ds) → r ≡ readOf base ds
-unfolding readOf
+pub read-yes : (base : ℕ) (ds : List ℕ) {r : Reading} → byteBase base ≡ true → r ≡ readBy true (ltb (numeral base ds) (2 ^ 48)) (numeral base ds) → r ≡ fromDigitsOf base ds
+unfolding fromDigitsOf
 read-yes base ds e d = rw e d
 
-pub read-no : (base : ℕ) (ds : List ℕ) → byteBase base ≡ false → Refused ≡ readOf base ds
-unfolding readOf
+pub read-no : (base : ℕ) (ds : List ℕ) → byteBase base ≡ false → Refused ≡ fromDigitsOf base ds
+unfolding fromDigitsOf
 read-no base ds e = rw e

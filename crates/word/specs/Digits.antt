@@ -30,8 +30,8 @@ abbrev pub writtenBy : Bool → List ℕ → List ℕ → List ℕ
 writtenBy true new old = new
 writtenBy false new old = old
 
-unfoldable pub writtenOf : ℕ → ℕ → List ℕ → List ℕ
-writtenOf base n old = writtenBy (byteBase base) (digits base (length old) n) old
+unfoldable pub toDigitsOf : ℕ → ℕ → List ℕ → List ℕ
+toDigitsOf base n old = writtenBy (byteBase base) (digits base (length old) n) old
 
 -- Digits are read as a word, below 2^48, or refused.
 abbrev pub readBy : Bool → Bool → ℕ → Reading
@@ -39,5 +39,5 @@ readBy true true n = Number n
 readBy true false n = Refused
 readBy false small n = Refused
 
-unfoldable pub readOf : ℕ → List ℕ → Reading
-readOf base ds = readBy (byteBase base) (ltb (numeral base ds) (2 ^ 48)) (numeral base ds)
+unfoldable pub fromDigitsOf : ℕ → List ℕ → Reading
+fromDigitsOf base ds = readBy (byteBase base) (ltb (numeral base ds) (2 ^ 48)) (numeral base ds)

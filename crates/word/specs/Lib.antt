@@ -1,5 +1,7 @@
+pub mod Choices
 pub mod Field
 pub mod Layout
+pub mod Backs
 pub mod Kinds
 pub mod Numbers
 pub mod Addresses

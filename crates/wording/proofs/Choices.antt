@@ -10,7 +10,7 @@ use Rattle.wording.specs.declared.commands.Command.the-variants.{Run, In
 use Rattle.wording.specs.declared.places.Spot.{Spot}
 use Rattle.wording.specs.Commands.{sameOf, countedOf, commandOf, runWord, inspectWord, helpWord}
 use Rattle.wording.specs.Names.{nameAt, nameOf}
-use Rattle.wording.specs.Places.{spotOf, kindOf}
+use Rattle.wording.specs.Places.{spotOf, recordKindOf}
 use Rattle.wording.specs.Results.{stopStatus, statusOf}
 
 -- ---- commands
@@ -64,24 +64,24 @@ spot-at sheet place a b = rw (a, b)
 
 -- ---- kinds
 
-pub kind-0 : (sheet : List ℕ) (place : ℕ) → place ≡ 0 → 1 ≡ kindOf sheet place
-unfolding kindOf
+pub kind-0 : (sheet : List ℕ) (place : ℕ) → place ≡ 0 → 1 ≡ recordKindOf sheet place
+unfolding recordKindOf
 kind-0 sheet place e = rw (eq-eqb place 0 e)
 
-pub kind-1 : (sheet : List ℕ) (place : ℕ) → place ≡ 1 → 2 ≡ kindOf sheet place
-unfolding kindOf
+pub kind-1 : (sheet : List ℕ) (place : ℕ) → place ≡ 1 → 2 ≡ recordKindOf sheet place
+unfolding recordKindOf
 kind-1 sheet place e = rw e
 
-pub kind-2 : (sheet : List ℕ) (place : ℕ) → place ≡ 2 → 5 ≡ kindOf sheet place
-unfolding kindOf
+pub kind-2 : (sheet : List ℕ) (place : ℕ) → place ≡ 2 → 5 ≡ recordKindOf sheet place
+unfolding recordKindOf
 kind-2 sheet place e = rw e
 
-pub kind-own : (sheet : List ℕ) (place : ℕ) {k : ℕ} → (place ≡ 0 → ⊥) → (place ≡ 1 → ⊥) → (place ≡ 2 → ⊥) → place < 1027 → k ≡ getD sheet (6 * place) 0 → k ≡ kindOf sheet place
-unfolding kindOf
+pub kind-own : (sheet : List ℕ) (place : ℕ) {k : ℕ} → (place ≡ 0 → ⊥) → (place ≡ 1 → ⊥) → (place ≡ 2 → ⊥) → place < 1027 → k ≡ getD sheet (6 * place) 0 → k ≡ recordKindOf sheet place
+unfolding recordKindOf
 kind-own sheet place a b c h e = rw (ne-eqb place 0 a, ne-eqb place 1 b, ne-eqb place 2 c, lt-ltb place 1027 h) e
 
-pub kind-past : (sheet : List ℕ) (place : ℕ) → (place ≡ 0 → ⊥) → (place ≡ 1 → ⊥) → (place ≡ 2 → ⊥) → 1027 ≤ place → 0 ≡ kindOf sheet place
-unfolding kindOf
+pub kind-past : (sheet : List ℕ) (place : ℕ) → (place ≡ 0 → ⊥) → (place ≡ 1 → ⊥) → (place ≡ 2 → ⊥) → 1027 ≤ place → 0 ≡ recordKindOf sheet place
+unfolding recordKindOf
 kind-past sheet place a b c h = rw (ne-eqb place 0 a, ne-eqb place 1 b, ne-eqb place 2 c, le-ltb place 1027 h)
 
 -- ---- statuses

@@ -15,7 +15,8 @@ use Rattle.word.specs.Numbers.{signed, valueOf, wholeOf}
 use Rattle.wording.specs.declared.numbers.Reading.the-variants.{Number, Over, Wrong}
 use Rattle.wording.specs.declared.numbers.Signed.{Signed}
 use Rattle.wording.specs.declared.numbers.Signed.the-variants.{Plus, Minus, NotWhole}
-use Rattle.wording.specs.Numbers.{areDigits, followed, readFrom, readingOf, cappedOf, plainSigned, signedInt, signedOf}
+use Rattle.wording.specs.Numbers.{areDigits, followed, readFrom, readingOf, signedInt, signedOf}
+use Rattle.wording.specs.ForCode.Caps.{cappedOf, plainSigned}
 
 -- ---- from text
 

@@ -4,7 +4,7 @@ use Prim.Native.Nat.{ℕ}
 use mathlib.Core.Bool.{Bool, true, false}
 use mathlib.Core.List.{List, [], _∷_}
 use lib.Dec.{eqb, ltb}
-use Rattle.tape.specs.Files.{choose}
+use Rattle.word.specs.Choices.{choose}
 use Rattle.wording.specs.declared.commands.Command.{Command}
 use Rattle.wording.specs.declared.commands.Command.the-variants.{Run, Inspect, Help, Unknown, Miscounted}
 

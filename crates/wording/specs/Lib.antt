@@ -3,3 +3,4 @@ pub mod Names
 pub mod Numbers
 pub mod Places
 pub mod Results
+pub mod ForCode

@@ -4,7 +4,7 @@ use Prim.Native.Nat.{ℕ, _+_, _*_}
 use mathlib.Core.List.{List, [], _∷_}
 use lib.Dec.{ltb}
 use lib.ListN.{getD}
-use Rattle.tape.specs.Files.{choose}
+use Rattle.word.specs.Choices.{choose}
 
 -- Four characters a name, in the order of the operator numbers: none, the 36 operators, LITC, OPDC, DESC.
 abbrev pub names : List ℕ

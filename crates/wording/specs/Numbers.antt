@@ -5,7 +5,7 @@ use mathlib.Core.Bool.{Bool, true, false, _&&_}
 use mathlib.Core.List.{List, [], _∷_}
 use lib.Dec.{leb, ltb}
 use lib.IntN.{ℤ, pos, negsuc}
-use Rattle.tape.specs.Files.{choose}
+use Rattle.word.specs.Choices.{choose}
 use Rattle.word.specs.declared.number.Whole.{Whole}
 use Rattle.word.specs.declared.number.Whole.the-variants.{Number as Known, NotWhole as Unknown}
 use Rattle.wording.specs.declared.numbers.Reading.{Reading}
@@ -40,16 +40,7 @@ unfoldable pub readingOf : List ℕ → ℕ → ℕ → Reading
 readingOf [] base most = Wrong
 readingOf (c ∷ cs) base most = readFrom base most 0 (c ∷ cs)
 
-unfoldable pub cappedOf : ℕ → ℕ → ℕ
-cappedOf n most = choose (leb n most) n (most + 1)
-
 -- ---- a word
-
--- Zero has no sign.
-abbrev pub plainSigned : Bool → ℕ → Signed
-plainSigned true zero = Plus zero
-plainSigned true (suc n) = Minus (suc n)
-plainSigned false n = Plus n
 
 abbrev pub signedInt : ℤ → Signed
 signedInt (pos n) = Plus n

@@ -4,7 +4,7 @@ use Prim.Native.Nat.{ℕ, _+_, _*_, _/_, _%_}
 use mathlib.Core.List.{List}
 use lib.Dec.{eqb, ltb}
 use lib.ListN.{getD}
-use Rattle.tape.specs.Files.{choose}
+use Rattle.word.specs.Choices.{choose}
 use Rattle.wording.specs.declared.places.Spot.{Spot}
 
 -- "Four in a word, L=0 leftmost"; "syllables count from 0". The first code word is in bytes 2 and 3 of the sheet.
@@ -12,8 +12,8 @@ unfoldable pub spotOf : List ℕ → ℕ → Spot
 spotOf sheet place = record { word = 256 * getD sheet 2 0 + getD sheet 3 0 + place / 4; syllable = place % 4 }
 
 -- "Record 0: kind 1 .. Record 1: kind 2 .. Record 2: kind 5 .. Then kind 3 number cells or kind 4 array cells". A sheet has at most 1,027 records.
-unfoldable pub kindOf : List ℕ → ℕ → ℕ
-kindOf sheet place =
+unfoldable pub recordKindOf : List ℕ → ℕ → ℕ
+recordKindOf sheet place =
     choose (eqb place 0) 1
     (choose (eqb place 1) 2
     (choose (eqb place 2) 5

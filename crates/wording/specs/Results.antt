@@ -4,11 +4,12 @@ use Prim.Native.Nat.{ℕ, _+_, _*_}
 use mathlib.Core.List.{List}
 use lib.Dec.{eqb}
 use lib.ListN.{getD}
-use Rattle.tape.specs.Files.{choose}
+use Rattle.word.specs.Choices.{choose}
+use Rattle.word.specs.Addresses.{cellAddress}
 
 -- "COM: A full, store it at 64R+9"
 abbrev pub communicatedOf : List ℕ → ℕ → ℕ
-communicatedOf core r = getD core (64 * r + 9) 0
+communicatedOf core r = getD core (cellAddress r 9) 0
 
 -- A run that communicated or spent its budget, or one that stopped otherwise.
 unfoldable pub stopStatus : ℕ → ℕ

@@ -2,7 +2,8 @@
 ghost use mathlib.Core.Path.{_≡_};
 ghost use Prim.Native.Nat.{_<_};
 ghost use Rattle.word.specs.Numbers.{wholeOf};
-ghost use Rattle.wording.specs.Numbers.{cappedOf, readingOf, plainSigned, signedOf};
+ghost use Rattle.wording.specs.Numbers.{readingOf, signedOf};
+ghost use Rattle.wording.specs.ForCode.Caps.{cappedOf, plainSigned};
 
 // What a text was read as.
 pub enum Reading {

@@ -2,7 +2,7 @@
 ghost use mathlib.Core.Path.{_≡_};
 ghost use lib.ListN.{getD};
 ghost use Prim.Native.Nat.{_<_};
-ghost use Rattle.wording.specs.Places.{spotOf, kindOf};
+ghost use Rattle.wording.specs.Places.{spotOf, recordKindOf};
 
 // A syllable of the code: the address of its word, and its place there, 0 being leftmost.
 pub struct Spot {
@@ -33,7 +33,7 @@ pub fn place_of(sheet: &[u8], place: u64) -> Spot
 
 // The kind that a record has by its place, or by its own first byte from record 3 on; 0 past the sheet's end.
 pub fn kind_at(sheet: &[u8], place: u64) -> u64
-    ensures { λ r. ⌜ r ≡ kindOf (now (sheet .entry)) place ⌝ }
+    ensures { λ r. ⌜ r ≡ recordKindOf (now (sheet .entry)) place ⌝ }
 {
     if place == 0 {
         return 1;

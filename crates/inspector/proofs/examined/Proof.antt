@@ -1,5 +1,5 @@
 use Rattle.inspector.proofs.Answers.{blames, passes, fits-most, ranges}
-use Rattle.inspector.specs.Forms.{foundOf}
+use Rattle.inspector.specs.ForCode.Forms.{foundOf}
 use mathlib.Core.Path.{refl, sym, _∙_, ap}
 use borrow.Author.Needs.{needs}
 use Rattle.inspector.proofs.examined.Statement.{statement}

@@ -40,8 +40,7 @@ use denote.Triple.Clauses.{ensured, lasts}
 use denote.Triple.Table.{entered, cited}
 use denote.Triple.Walked.{says, Stays, stay-ref, gave-slice, walkOf, goes-ref, goes-gave-slice, Walks, ends-at, walked, walk-meets}
 use denote.Signature.{plain}
-use Rattle.machine.specs.Steps.{stepOf}
-use Rattle.machine.specs.Shapes.{answered}
+use Rattle.machine.specs.Steps.{stepOf, answered}
 use Rattle.machine.specs.declared.outcome.Registers.{Registers}
 use Rattle.machine.specs.declared.outcome.Answer.{Answer}
 use Rattle.machine.proofs.outcome.Registers as T

@@ -1,6 +1,6 @@
 use mathlib.Core.Path.{sym, ap, _∙_}
 use native.Mathlib.Omega.{arith}
-use Rattle.syllable.specs.Places.{syllableOf}
+use Rattle.syllable.specs.Positions.{syllableOf}
 use Rattle.syllable.proofs.Lasts.{last-twelve}
 use borrow.Author.Needs.{needs}
 use Rattle.syllable.proofs.syllable_at.Statement.{statement}

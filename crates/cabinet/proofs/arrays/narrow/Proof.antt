@@ -1,5 +1,5 @@
 -- The text of narrowOf.
-use Rattle.cabinet.specs.Arrays.{narrowOf}
+use Rattle.cabinet.specs.ForCode.Rooms.{narrowOf}
 use mathlib.Core.Path.{refl}
 use borrow.Author.Tests.{le-leb, lt-leb}
 use Rattle.machine.proofs.Calculus.{isYes, isNo}

@@ -1,6 +1,6 @@
 -- Both writings, or neither.
 use Rattle.cabinet.proofs.Backs.{hands-back}
-use Rattle.cabinet.specs.Crossings.{leftOf}
+use Rattle.cabinet.specs.ForCode.Rooms.{writtenBack}
 use mathlib.Core.Path.{refl, sym, _∙_}
 use Rattle.machine.proofs.Calculus.{isYes}
 use borrow.Author.Needs.{needs}
@@ -11,7 +11,7 @@ refused-requires : tie.Need-refused-requires
 refused-requires c κs = search needs
 
 returns : tie.Need-returns
-unfolding leftOf
+unfolding writtenBack
 returns c = isYes _ _ (sym (c .before .refused .ensures) ∙ c .if1 .taken) refl
 
 write-file-requires : tie.Need-write-file-requires

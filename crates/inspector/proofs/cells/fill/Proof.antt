@@ -1,7 +1,7 @@
 use borrow.Author.Needs.{needs}
 use mathlib.Core.Path.{refl, sym, _∙_, ap}
 use Prim.Native.Nat.{ℕ, _-_, _≤_, _<_}
-use Rattle.inspector.specs.Sheets.{entries}
+use Rattle.sheet.specs.Sheets.{entries}
 use Rattle.inspector.proofs.Paints.{Filled, filled-none, filled-more, filled-all}
 use native.Mathlib.Omega.{arith}
 use Rattle.inspector.proofs.cells.fill.Statement.{statement}

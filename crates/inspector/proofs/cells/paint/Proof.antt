@@ -1,7 +1,7 @@
 use borrow.Author.Needs.{needs}
 use mathlib.Core.Path.{refl, sym, _∙_, ap}
 use Prim.Native.Nat.{ℕ, _-_, _≤_, _<_}
-use Rattle.inspector.specs.Forms.{Painted}
+use Rattle.inspector.specs.ForCode.Forms.{Painted}
 use Rattle.inspector.proofs.Paints.{paint-none, paint-more, paint-all}
 use Rattle.inspector.proofs.cells.paint.Statement.{statement}
 use Rattle.inspector.proofs.cells.paint.Tie as tie

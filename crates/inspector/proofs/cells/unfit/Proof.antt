@@ -1,7 +1,7 @@
 use borrow.Author.Needs.{needs}
 use mathlib.Core.Path.{refl, sym, _∙_, ap}
 use Prim.Native.Nat.{ℕ, _-_, _≤_, _<_}
-use Rattle.inspector.specs.Sheets.{tableOf}
+use Rattle.sheet.specs.Sheets.{tableOf}
 use Rattle.inspector.specs.Cells.{unfit as unfitOf}
 use Rattle.inspector.proofs.Searches.{Sought, sought-none, sought-more, sought-at, sought-all}
 use Rattle.inspector.proofs.cells.unfit.Statement.{statement}

@@ -1,9 +1,8 @@
 use Rattle.inspector.proofs.Syllables.{twenty-nine}
 use Rattle.inspector.specs.Scan.{number, place}
-use Rattle.inspector.specs.Forms.{itemOf}
+use Rattle.inspector.specs.ForCode.Forms.{itemOf, effected}
 use Rattle.inspector.proofs.Views.{literal-left, call-left}
 use Rattle.inspector.specs.Scan.{calledOver, loaded, stored, communicated}
-use Rattle.inspector.specs.Forms.{effected}
 use Rattle.inspector.proofs.Syllables.{two-at, one-at, sign-at, branch-at, branch-if-at, just, late-at}
 use native.Mathlib.Omega.{arith}
 use mathlib.Core.Path.{refl, sym, _∙_, ap}

@@ -4,13 +4,14 @@ use mathlib.Core.Bool.{not}
 use lib.ListN.{length}
 use borrow.Author.Needs.{needs}
 use mathlib.Core.Path.{refl, sym, _∙_, ap}
-use Rattle.inspector.specs.Sheets.{entries, recordGood}
+use Rattle.sheet.specs.Sheets.{entries}
 use Rattle.inspector.proofs.Searches.{Sought, sought-none, sought-more, sought-at, sought-all}
 use Rattle.inspector.proofs.sheets.bad_record.Statement.{statement}
 use Rattle.inspector.proofs.sheets.bad_record.Tie as tie
 use Rattle.inspector.proofs.sheets.bad_record.Reads as reads
 use Rattle.inspector.proofs.sheets.bad_record.Lts as lts
 use Rattle.inspector.proofs.sheets.record_good.Reads as record-good-reads
+use Rattle.inspector.specs.Records.{recordGood}
 
 abbrev Inv-loop : tie.InvT-loop
 Inv-loop sheet n i₀ i = (i ≤ entries sheet) × Sought (λ (j : ℕ). not (recordGood sheet j)) (entries sheet) i

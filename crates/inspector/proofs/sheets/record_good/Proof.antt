@@ -1,4 +1,4 @@
-use Rattle.inspector.specs.Sheets.{recordGood}
+use Rattle.inspector.specs.Records.{recordGood}
 use Rattle.inspector.proofs.Records.{good-at, good-more}
 use native.Mathlib.Omega.{arith}
 use mathlib.Core.Path.{refl, sym, _∙_, ap}

@@ -1,4 +1,4 @@
-use Rattle.inspector.specs.Sheets.{sheetFits}
+use Rattle.inspector.specs.Records.{sheetFits}
 use mathlib.Core.Path.{refl, sym, _∙_, ap}
 use borrow.Author.Needs.{needs}
 use Rattle.inspector.proofs.sheets.sheet_fits.Statement.{statement}

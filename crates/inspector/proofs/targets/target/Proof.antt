@@ -2,7 +2,7 @@ use borrow.Author.Needs.{needs}
 use mathlib.Core.Path.{refl, sym, _∙_, ap}
 use Prim.Native.Nat.{ℕ, _*_, _-_, _≤_, _<_}
 use native.Mathlib.Omega.{arith}
-use Rattle.inspector.specs.Sheets.{codeWordsOf}
+use Rattle.sheet.specs.Sheets.{codeWordsOf}
 use Rattle.inspector.specs.Targets.{missesTarget}
 use Rattle.inspector.proofs.Searches.{Sought, sought-none, sought-more, sought-at, sought-all}
 use Rattle.inspector.proofs.Aims.{target-as}

@@ -1,6 +1,6 @@
 use Rattle.machine.proofs.Integers.{chosen}
 use Rattle.machine.specs.Arithmetics.{relateOf}
-use Rattle.machine.specs.Shapes.{binaryOf}
+use Rattle.machine.specs.ForCode.Answers.{binaryOf}
 use Rattle.machine.specs.Outcomes.{on}
 use mathlib.Core.Path.{ap}
 use borrow.Author.Needs.{needs}

@@ -2,7 +2,7 @@ use mathlib.Core.Path.{refl}
 use Rattle.machine.proofs.Calculus.{known, isGiven, isCut}
 use Rattle.machine.proofs.Results.{worked}
 use Rattle.machine.specs.Arithmetics.{twoOf}
-use Rattle.machine.specs.Shapes.{partOf, wentOf}
+use Rattle.machine.specs.ForCode.Answers.{partOf, wentOf}
 use borrow.Author.Needs.{needs}
 use Rattle.machine.proofs.arithmetic.two.Statement.{statement}
 use Rattle.machine.proofs.arithmetic.two.Tie as tie

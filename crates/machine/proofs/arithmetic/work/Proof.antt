@@ -2,7 +2,7 @@ use mathlib.Core.Path.{_∙_}
 use Rattle.machine.proofs.Calculus.{isGiven, isCut}
 use Rattle.machine.proofs.Integers.{reads-two}
 use Rattle.machine.proofs.Results.{taken, whole-fits, whole-held}
-use Rattle.machine.specs.Shapes.{binaryOf}
+use Rattle.machine.specs.ForCode.Answers.{binaryOf}
 use borrow.Author.Needs.{needs}
 use Rattle.machine.proofs.arithmetic.work.Statement.{statement}
 use Rattle.machine.proofs.arithmetic.work.Tie as tie

@@ -1,5 +1,5 @@
 use Rattle.machine.specs.declared.outcome.Change.{Change}
-use Rattle.machine.specs.Shapes.{changeOf}
+use Rattle.machine.specs.ForCode.Answers.{changeOf}
 use Rattle.machine.proofs.Turns.{of-case, lng-is, chs-is}
 use borrow.Author.Needs.{needs}
 use Rattle.machine.proofs.bits.changed.Statement.{statement}

@@ -1,4 +1,4 @@
-use Rattle.machine.specs.Shapes.{wentOf}
+use Rattle.machine.specs.ForCode.Answers.{wentOf}
 use Rattle.machine.specs.Bits.{delOf}
 use mathlib.Core.Path.{refl}
 use Rattle.machine.proofs.Calculus.{known, isGiven, isCut}

@@ -1,6 +1,6 @@
 use Rattle.machine.proofs.Turns.{puts}
 use Rattle.machine.specs.States.{emptyB, fillA}
-use Rattle.machine.specs.Shapes.{wentOf}
+use Rattle.machine.specs.ForCode.Answers.{wentOf}
 use Rattle.machine.specs.Bits.{inxOf}
 use Rattle.machine.proofs.Calculus.{known, isGiven, isCut}
 use borrow.Author.Needs.{needs}

@@ -1,7 +1,7 @@
 use lib.Bits.{bitAnd, bitOr, bitXor}
 use Prim.Native.Nat.{_-_, _^_}
 use Rattle.machine.specs.declared.outcome.Join.{Join}
-use Rattle.machine.specs.Shapes.{joinOf}
+use Rattle.machine.specs.ForCode.Answers.{joinOf}
 use Rattle.machine.proofs.Turns.{of-case, join-is, xor-room}
 use borrow.Author.Needs.{needs}
 use Rattle.machine.proofs.bits.joined.Statement.{statement}

@@ -1,7 +1,7 @@
 use Rattle.machine.proofs.Turns.{puts}
 use Rattle.machine.specs.States.{fillA, fillB}
 use Rattle.machine.specs.Stack.{aEmptyOf, bFullOf}
-use Rattle.machine.specs.Shapes.{wentOf}
+use Rattle.machine.specs.ForCode.Answers.{wentOf}
 use Rattle.machine.specs.Bits.{topFlagOf}
 use mathlib.Core.Path.{refl, sym}
 use Rattle.machine.proofs.Calculus.{known, isYes, isNo, isGiven, isCut, stays, staysAt, wrote, went, cut, kept}

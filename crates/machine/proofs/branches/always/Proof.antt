@@ -1,4 +1,4 @@
-use Rattle.machine.specs.Shapes.{wentOf}
+use Rattle.machine.specs.ForCode.Answers.{wentOf}
 use Rattle.machine.specs.Branches.{alwaysOf}
 use Rattle.machine.proofs.Adjusted.{a-full-l}
 use Rattle.machine.proofs.Calculus.{known, isGiven, isCut}

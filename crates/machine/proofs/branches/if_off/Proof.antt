@@ -1,5 +1,5 @@
 use borrow.Author.Tests.{eq-eqb, ne-eqb}
-use Rattle.machine.specs.Shapes.{wentOf}
+use Rattle.machine.specs.ForCode.Answers.{wentOf}
 use Rattle.machine.specs.Branches.{ifOffOf}
 use Rattle.machine.proofs.Turns.{last-bit}
 use Rattle.machine.proofs.Adjusted.{both-full-l}

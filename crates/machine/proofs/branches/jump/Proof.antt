@@ -1,7 +1,7 @@
 use native.Mathlib.Omega.{arith}
 use Rattle.machine.specs.Outcomes.{on}
-use Rattle.machine.specs.States.{withPlace}
-use Rattle.machine.specs.Shapes.{stateOf, spotOf}
+use Rattle.machine.specs.States.{withCL, stateOf}
+use Rattle.machine.specs.ForCode.Answers.{spotSays}
 use Rattle.machine.specs.Branches.{landingOf, jumpOf}
 use Rattle.machine.proofs.Turns.{low-bits}
 use Rattle.machine.proofs.Landings.{landing-small}
@@ -33,7 +33,7 @@ address-requires c κs = search needs
 -- src/branches.rt:42:13
 returns : tie.Need-returns
 unfolding jumpOf
-returns c = λ core. isYes _ _ (sym (c .before .before .before .before .flag .ensures) ∙ c .before .before .before .if1 .taken) (isYes _ _ (sym (c .before .before .presence .ensures) ∙ c .before .if2 .taken) (ap (λ (x : ℕ). on (withPlace (stateOf core (c .before .before .before .before .before .args .g)) x 0)) (c .address .ensures)))
+returns c = λ core. isYes _ _ (sym (c .before .before .before .before .flag .ensures) ∙ c .before .before .before .if1 .taken) (isYes _ _ (sym (c .before .before .presence .ensures) ∙ c .before .if2 .taken) (ap (λ (x : ℕ). on (withCL (stateOf core (c .before .before .before .before .before .args .g)) x 0)) (c .address .ensures)))
 
 -- src/branches.rt:44:9
 returns-2 : tie.Need-returns-2
@@ -75,11 +75,11 @@ enum-known-n-2 c = search needs
 -- src/branches.rt:49:13
 returns-3 : tie.Need-returns-3
 unfolding jumpOf
-returns-3 c = λ core. isNo _ _ (sym (c .before .before .before .before .before .before .before .flag .ensures) ∙ c .before .before .before .before .before .before .if1 .left) (isCut _ (known spotOf (c .before .before .before .landing .ensures ∙ ap (landingOf _ _) (low-bits _ 4096)) (c .before .n2 .given .1)))
+returns-3 c = λ core. isNo _ _ (sym (c .before .before .before .before .before .before .before .flag .ensures) ∙ c .before .before .before .before .before .before .if1 .left) (isCut _ (known spotSays (c .before .before .before .landing .ensures ∙ ap (landingOf _ _) (low-bits _ 4096)) (c .before .n2 .given .1)))
 
 -- src/branches.rt:52:13
 cast-c : tie.Need-cast-c
-cast-c c = omega (arith, landing-small _ (c .before .before .before .before .before .before .before .before .args .g .c) _ _ _ (omega (arith, c .before .before .before .before .before .struct-known .given)) (c .before .before .before .before .before .before .before .before .pre) (known spotOf (c .before .before .before .landing .ensures) (c .before .n .given .1)))
+cast-c c = omega (arith, landing-small _ (c .before .before .before .before .before .before .before .before .args .g .c) _ _ _ (omega (arith, c .before .before .before .before .before .struct-known .given)) (c .before .before .before .before .before .before .before .before .pre) (known spotSays (c .before .before .before .landing .ensures) (c .before .n .given .1)))
 
 -- src/branches.rt:53:13
 cast-l : tie.Need-cast-l
@@ -88,7 +88,7 @@ cast-l c = search needs
 -- src/branches.rt:32:1
 returns-4 : tie.Need-returns-4
 unfolding jumpOf
-returns-4 c = λ core. isNo _ _ (sym (c .before .before .before .before .before .before .before .flag .ensures) ∙ c .before .before .before .before .before .before .if1 .left) (isGiven _ (known spotOf (c .before .before .before .landing .ensures ∙ ap (landingOf _ _) (low-bits _ 4096)) (c .before .n .given .1)) refl)
+returns-4 c = λ core. isNo _ _ (sym (c .before .before .before .before .before .before .before .flag .ensures) ∙ c .before .before .before .before .before .before .if1 .left) (isGiven _ (known spotSays (c .before .before .before .landing .ensures ∙ ap (landingOf _ _) (low-bits _ 4096)) (c .before .n .given .1)) refl)
 
 pub jump-spec : {M : Type 1} → statement M
 jump-spec =

@@ -1,6 +1,6 @@
 -- The definition, part by part.
 use Rattle.machine.specs.Calls.{dataCallOf}
-use Rattle.machine.specs.Shapes.{wentOf}
+use Rattle.machine.specs.ForCode.Answers.{wentOf}
 use Rattle.machine.proofs.Calculus.{known, isYes, isNo, isGiven, isCut}
 use mathlib.Core.Path.{refl}
 use borrow.Author.Needs.{needs}

@@ -3,7 +3,7 @@ use Rattle.machine.specs.Calls.{indexedOf, indexOf}
 use Rattle.machine.proofs.Indexes.{index-small}
 use Rattle.machine.proofs.Answers.{fills, via}
 use native.Mathlib.Omega.{arith}
-use Rattle.machine.specs.Shapes.{spotOf, wentOf}
+use Rattle.machine.specs.ForCode.Answers.{spotSays, wentOf}
 use Rattle.machine.proofs.Calculus.{known, isYes, isNo, isGiven, isCut}
 use borrow.Author.Tests.{eq-eqb, ne-eqb}
 use mathlib.Core.Path.{refl, sym, _∙_}
@@ -42,17 +42,17 @@ enum-known-n-2 c = search needs
 
 returns-3 : tie.Need-returns-3
 unfolding indexedOf
-returns-3 c = isNo _ _ (ne-eqb _ _ (λ e. c .before .before .before .before .before .before .before .before .if1 .left (c .before .before .before .before .before .before .before .before .before .size .ensures ∙ e))) (isGiven _ (known (wentOf _) (c .before .before .before .before .before .before .before .b-full .ensures) (c .before .before .before .before .before .h .given .1)) (isCut _ (via (indexOf _) (c .before .before .before .before .before .before .before .before .before .size .ensures) (known spotOf (c .before .before .before .index .ensures) (c .before .n2 .given .1)))))
+returns-3 c = isNo _ _ (ne-eqb _ _ (λ e. c .before .before .before .before .before .before .before .before .if1 .left (c .before .before .before .before .before .before .before .before .before .size .ensures ∙ e))) (isGiven _ (known (wentOf _) (c .before .before .before .before .before .before .before .b-full .ensures) (c .before .before .before .before .before .h .given .1)) (isCut _ (via (indexOf _) (c .before .before .before .before .before .before .before .before .before .size .ensures) (known spotSays (c .before .before .before .index .ensures) (c .before .n2 .given .1)))))
 
 cast-moved : tie.Need-cast-moved
-cast-moved c = omega (arith, index-small _ _ _ (known spotOf (c .before .before .before .index .ensures) (c .before .i .given .1)))
+cast-moved c = omega (arith, index-small _ _ _ (known spotSays (c .before .before .before .index .ensures) (c .before .i .given .1)))
 
 moved-requires : tie.Need-moved-requires
 moved-requires c κs = search needs
 
 returns-4 : tie.Need-returns-4
 unfolding indexedOf
-returns-4 c = isNo _ _ (ne-eqb _ _ (λ e. c .before .before .before .before .before .before .before .before .before .if1 .left (c .before .before .before .before .before .before .before .before .before .before .size .ensures ∙ e))) (isGiven _ (known (wentOf _) (c .before .before .before .before .before .before .before .before .b-full .ensures) (c .before .before .before .before .before .before .h .given .1)) (isGiven _ (via (indexOf _) (c .before .before .before .before .before .before .before .before .before .before .size .ensures) (known spotOf (c .before .before .before .before .index .ensures) (c .before .before .i .given .1))) (fills (c .moved .ensures))))
+returns-4 c = isNo _ _ (ne-eqb _ _ (λ e. c .before .before .before .before .before .before .before .before .before .if1 .left (c .before .before .before .before .before .before .before .before .before .before .size .ensures ∙ e))) (isGiven _ (known (wentOf _) (c .before .before .before .before .before .before .before .before .b-full .ensures) (c .before .before .before .before .before .before .h .given .1)) (isGiven _ (via (indexOf _) (c .before .before .before .before .before .before .before .before .before .before .size .ensures) (known spotSays (c .before .before .before .before .index .ensures) (c .before .before .i .given .1))) (fills (c .moved .ensures))))
 
 pub indexed-spec : {M : Type 1} → statement M
 indexed-spec =

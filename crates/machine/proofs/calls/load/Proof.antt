@@ -2,7 +2,7 @@
 use Rattle.machine.specs.Calls.{loadOf}
 use Rattle.machine.proofs.Answers.{via}
 use Rattle.machine.specs.Memory.{readOf}
-use Rattle.machine.specs.Shapes.{partOf}
+use Rattle.machine.specs.ForCode.Answers.{partOf}
 use Rattle.machine.proofs.Calculus.{known, isYes, isNo, isGiven, isCut}
 use mathlib.Core.Path.{refl, sym, _∙_}
 use borrow.Author.Needs.{needs}

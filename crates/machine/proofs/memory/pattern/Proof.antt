@@ -3,7 +3,7 @@ use Rattle.machine.proofs.Sizes.{base-small}
 use native.Mathlib.Omega.{arith}
 use mathlib.Core.Path.{refl, sym, _∙_}
 use Rattle.machine.proofs.Calculus.{known, isYes, isNo, isGiven, isCut, stays, wrote, becomes, reads, went, cut, kept}
-use Rattle.machine.specs.Shapes.{spotOf, partOf, wentOf}
+use Rattle.machine.specs.ForCode.Answers.{spotSays, partOf, wentOf}
 use borrow.Author.Tests.{lt-ltb, le-ltb, eq-eqb, ne-eqb}
 use borrow.Author.Needs.{needs}
 use Rattle.machine.proofs.memory.pattern.Statement.{statement}
@@ -44,7 +44,7 @@ enum-known-b c = search needs
 
 -- src/memory.rt:68:37
 add-in-core-2 : tie.Need-add-in-core-2
-add-in-core-2 c = omega (arith, base-small _ _ (omega (arith, c .before .before .before .before .before .before .before .good)) (known spotOf (c .before .before .before .base .ensures) (c .before .b .given .1)))
+add-in-core-2 c = omega (arith, base-small _ _ (omega (arith, c .before .before .before .before .before .before .before .good)) (known spotSays (c .before .before .before .base .ensures) (c .before .b .given .1)))
 
 -- src/memory.rt:68:17
 in-core-requires-2 : tie.Need-in-core-requires-2
@@ -53,7 +53,7 @@ in-core-requires-2 c κs = search needs
 -- src/memory.rt:68:17
 returns-2 : tie.Need-returns-2
 unfolding patternOf
-returns-2 c = isNo _ _ (ne-eqb _ _ (c .before .before .before .before .before .before .if1 .left)) (isYes _ _ (eq-eqb _ _ (c .before .before .before .before .before .if2 .taken)) (isGiven _ (known spotOf (c .before .before .before .before .base .ensures) (c .before .before .b .given .1)) (c .in-core2 .ensures)))
+returns-2 c = isNo _ _ (ne-eqb _ _ (c .before .before .before .before .before .before .if1 .left)) (isYes _ _ (eq-eqb _ _ (c .before .before .before .before .before .if2 .taken)) (isGiven _ (known spotSays (c .before .before .before .before .base .ensures) (c .before .before .b .given .1)) (c .in-core2 .ensures)))
 
 -- src/memory.rt:70:24
 enum-known-n : tie.Need-enum-known-n
@@ -62,7 +62,7 @@ enum-known-n c = search needs
 -- src/memory.rt:71:17
 returns-3 : tie.Need-returns-3
 unfolding patternOf
-returns-3 c = isNo _ _ (ne-eqb _ _ (c .before .before .before .before .before .if1 .left)) (isYes _ _ (eq-eqb _ _ (c .before .before .before .before .if2 .taken)) (isCut _ (known spotOf (c .before .before .before .base .ensures) (c .before .n .given .1))))
+returns-3 c = isNo _ _ (ne-eqb _ _ (c .before .before .before .before .before .if1 .left)) (isYes _ _ (eq-eqb _ _ (c .before .before .before .before .if2 .taken)) (isCut _ (known spotSays (c .before .before .before .base .ensures) (c .before .n .given .1))))
 
 -- src/memory.rt:76:29
 add-in-core-3 : tie.Need-add-in-core-3
@@ -88,7 +88,7 @@ enum-known-b-2 c = search needs
 -- src/memory.rt:82:17
 returns-5 : tie.Need-returns-5
 unfolding patternOf
-returns-5 c = isNo _ _ (ne-eqb _ _ (c .before .before .before .before .before .before .before .if1 .left)) (isNo _ _ (ne-eqb _ _ (c .before .before .before .before .before .before .if2 .left)) (isNo _ _ (ne-eqb _ _ (c .before .before .before .before .before .if3 .left)) (isGiven _ (known spotOf (c .before .before .before .before .base2 .ensures) (c .before .before .b2 .given .1)) (isYes _ _ (lt-ltb _ _ (c .if4 .taken)) refl))))
+returns-5 c = isNo _ _ (ne-eqb _ _ (c .before .before .before .before .before .before .before .if1 .left)) (isNo _ _ (ne-eqb _ _ (c .before .before .before .before .before .before .if2 .left)) (isNo _ _ (ne-eqb _ _ (c .before .before .before .before .before .if3 .left)) (isGiven _ (known spotSays (c .before .before .before .before .base2 .ensures) (c .before .before .b2 .given .1)) (isYes _ _ (lt-ltb _ _ (c .if4 .taken)) refl))))
 
 -- src/memory.rt:84:13
 in-core-requires-4 : tie.Need-in-core-requires-4
@@ -101,12 +101,12 @@ enum-known-n-2 c = search needs
 -- src/memory.rt:58:1
 returns-6 : tie.Need-returns-6
 unfolding patternOf
-returns-6 c = isNo _ _ (ne-eqb _ _ (c .before .before .before .before .before .before .before .before .if1 .left)) (isNo _ _ (ne-eqb _ _ (c .before .before .before .before .before .before .before .if2 .left)) (isNo _ _ (ne-eqb _ _ (c .before .before .before .before .before .before .if3 .left)) (isGiven _ (known spotOf (c .before .before .before .before .before .base2 .ensures) (c .before .before .before .b2 .given .1)) (isNo _ _ (le-ltb _ _ (c .before .if4 .left)) (c .in-core4 .ensures)))))
+returns-6 c = isNo _ _ (ne-eqb _ _ (c .before .before .before .before .before .before .before .before .if1 .left)) (isNo _ _ (ne-eqb _ _ (c .before .before .before .before .before .before .before .if2 .left)) (isNo _ _ (ne-eqb _ _ (c .before .before .before .before .before .before .if3 .left)) (isGiven _ (known spotSays (c .before .before .before .before .before .base2 .ensures) (c .before .before .before .b2 .given .1)) (isNo _ _ (le-ltb _ _ (c .before .if4 .left)) (c .in-core4 .ensures)))))
 
 -- src/memory.rt:58:1
 returns-7 : tie.Need-returns-7
 unfolding patternOf
-returns-7 c = isNo _ _ (ne-eqb _ _ (c .before .before .before .before .before .before .if1 .left)) (isNo _ _ (ne-eqb _ _ (c .before .before .before .before .before .if2 .left)) (isNo _ _ (ne-eqb _ _ (c .before .before .before .before .if3 .left)) (isCut _ (known spotOf (c .before .before .before .base2 .ensures) (c .before .n2 .given .1)))))
+returns-7 c = isNo _ _ (ne-eqb _ _ (c .before .before .before .before .before .before .if1 .left)) (isNo _ _ (ne-eqb _ _ (c .before .before .before .before .before .if2 .left)) (isNo _ _ (ne-eqb _ _ (c .before .before .before .before .if3 .left)) (isCut _ (known spotSays (c .before .before .before .base2 .ensures) (c .before .n2 .given .1)))))
 
 pub pattern-spec : {M : Type 1} → statement M
 pattern-spec =

@@ -2,7 +2,7 @@ use lib.Seq.{set-out}
 use Rattle.machine.proofs.Writes.{put-yes, put-out, put-no}
 use mathlib.Core.Path.{refl, sym, _∙_}
 use Rattle.machine.proofs.Calculus.{known, isYes, isNo, isGiven, isCut, stays, wrote, becomes, reads, went, cut, kept}
-use Rattle.machine.specs.Shapes.{spotOf, partOf, wentOf}
+use Rattle.machine.specs.ForCode.Answers.{spotSays, partOf, wentOf}
 use borrow.Author.Tests.{lt-ltb, le-ltb, eq-eqb, ne-eqb}
 use borrow.Author.Needs.{needs}
 use Rattle.machine.proofs.memory.put.Statement.{statement}

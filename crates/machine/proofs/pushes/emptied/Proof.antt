@@ -1,5 +1,5 @@
 -- The two arms of the definition.
-use Rattle.machine.specs.Pushes.{emptied}
+use Rattle.machine.specs.ForCode.Pushes.{emptied}
 use Rattle.machine.proofs.Calculus.{isYes, isNo}
 use mathlib.Core.Path.{refl}
 use Rattle.machine.proofs.pushes.emptied.Statement.{statement}

@@ -1,5 +1,5 @@
 -- The two arms of the definition.
-use Rattle.machine.specs.Pushes.{inCoreIf}
+use Rattle.machine.specs.ForCode.Pushes.{inCoreIf}
 use Rattle.machine.proofs.Calculus.{isYes, isNo}
 use mathlib.Core.Path.{refl}
 use borrow.Author.Needs.{needs}

@@ -1,6 +1,6 @@
 use mathlib.Core.Path.{ap, sym, _∙_}
 use Rattle.machine.specs.Steps.{plain}
-use Rattle.machine.specs.Shapes.{partOf}
+use Rattle.machine.specs.ForCode.Answers.{partOf}
 use Rattle.machine.proofs.Calculus.{known}
 use Rattle.machine.proofs.Sprinting.{two-both}
 use borrow.Author.Needs.{needs}

@@ -2,8 +2,8 @@ use native.Mathlib.Omega.{arith}
 use mathlib.Core.Path.{refl, ap}
 use Rattle.machine.specs.Outcomes.{on}
 use Rattle.machine.specs.Calls.{indexOf}
-use Rattle.machine.specs.Shapes.{spotOf, partOf}
-use Rattle.machine.specs.Sprints.{elementOf}
+use Rattle.machine.specs.ForCode.Answers.{spotSays, partOf}
+use Rattle.machine.specs.ForCode.Sprints.{elementOf}
 use Rattle.machine.proofs.Answers.{via}
 use Rattle.machine.proofs.Calculus.{known, isYes, isNo, isGiven, isCut}
 use Rattle.machine.proofs.Indexes.{index-small}
@@ -69,11 +69,11 @@ enum-known-n-2 c = search needs
 -- src/quick.rt:89:13
 returns-3 : tie.Need-returns-3
 unfolding elementOf
-returns-3 c = isNo _ _ (element-test (c .before .before .before .before .before .before .before .before .before .before .before .before .args .d) (c .before .before .before .before .before .before .before .before .before .before .before .sign .ensures) (c .before .before .before .before .before .before .before .before .before .before .presence .ensures) (c .before .before .before .before .before .before .before .before .before .if1 .left)) (isGiven _ (known partOf (c .before .before .before .before .before .before .before .before .under .ensures) (c .before .before .before .before .before .before .x .given .1)) (isCut _ (via (indexOf _) (c .before .before .before .before .size .ensures) (known spotOf (c .before .before .before .index .ensures) (c .before .n2 .given .1)))))
+returns-3 c = isNo _ _ (element-test (c .before .before .before .before .before .before .before .before .before .before .before .before .args .d) (c .before .before .before .before .before .before .before .before .before .before .before .sign .ensures) (c .before .before .before .before .before .before .before .before .before .before .presence .ensures) (c .before .before .before .before .before .before .before .before .before .if1 .left)) (isGiven _ (known partOf (c .before .before .before .before .before .before .before .before .under .ensures) (c .before .before .before .before .before .before .x .given .1)) (isCut _ (via (indexOf _) (c .before .before .before .before .size .ensures) (known spotSays (c .before .before .before .index .ensures) (c .before .n2 .given .1)))))
 
 -- src/quick.rt:92:25
 cast-moved : tie.Need-cast-moved
-cast-moved c = omega (arith, index-small _ _ _ (known spotOf (c .before .before .before .index .ensures) (c .before .i .given .1)))
+cast-moved c = omega (arith, index-small _ _ _ (known spotSays (c .before .before .before .index .ensures) (c .before .i .given .1)))
 
 -- src/quick.rt:92:16
 moved-requires : tie.Need-moved-requires
@@ -82,7 +82,7 @@ moved-requires c κs = search needs
 -- src/quick.rt:74:1
 returns-4 : tie.Need-returns-4
 unfolding elementOf
-returns-4 c = isNo _ _ (element-test (c .before .before .before .before .before .before .before .before .before .before .before .before .before .args .d) (c .before .before .before .before .before .before .before .before .before .before .before .before .sign .ensures) (c .before .before .before .before .before .before .before .before .before .before .before .presence .ensures) (c .before .before .before .before .before .before .before .before .before .before .if1 .left)) (isGiven _ (known partOf (c .before .before .before .before .before .before .before .before .before .under .ensures) (c .before .before .before .before .before .before .before .x .given .1)) (isGiven _ (via (indexOf _) (c .before .before .before .before .before .size .ensures) (known spotOf (c .before .before .before .before .index .ensures) (c .before .before .i .given .1))) (ap on (c .moved .ensures))))
+returns-4 c = isNo _ _ (element-test (c .before .before .before .before .before .before .before .before .before .before .before .before .before .args .d) (c .before .before .before .before .before .before .before .before .before .before .before .before .sign .ensures) (c .before .before .before .before .before .before .before .before .before .before .before .presence .ensures) (c .before .before .before .before .before .before .before .before .before .before .if1 .left)) (isGiven _ (known partOf (c .before .before .before .before .before .before .before .before .before .under .ensures) (c .before .before .before .before .before .before .before .x .given .1)) (isGiven _ (via (indexOf _) (c .before .before .before .before .before .size .ensures) (known spotSays (c .before .before .before .before .index .ensures) (c .before .before .i .given .1))) (ap on (c .moved .ensures))))
 
 pub element-spec : {M : Type 1} → statement M
 element-spec =

@@ -1,5 +1,5 @@
 use mathlib.Core.Path.{sym, _∙_}
-use Rattle.machine.specs.Shapes.{partOf}
+use Rattle.machine.specs.ForCode.Answers.{partOf}
 use Rattle.machine.proofs.Calculus.{known}
 use Rattle.machine.proofs.Sprinting.{takes-element}
 use borrow.Author.Needs.{needs}

@@ -1,6 +1,6 @@
 use native.Mathlib.Omega.{arith}
 use mathlib.Core.Path.{sym, _∙_}
-use Rattle.machine.specs.Shapes.{spotOf}
+use Rattle.machine.specs.ForCode.Answers.{spotSays}
 use Rattle.machine.proofs.Calculus.{known}
 use Rattle.machine.proofs.Sizes.{k-address-in}
 use Rattle.machine.proofs.Sprinting.{quick-as, call-operand, call-raised}
@@ -36,11 +36,11 @@ returns-2 c = search needs
 
 -- src/quick.rt:128:13
 mul-w : tie.Need-mul-w
-mul-w c = omega (arith, k-address-in _ _ _ _ (known spotOf (c .before .before .before .k-address .ensures) (c .before .m .given .1)))
+mul-w c = omega (arith, k-address-in _ _ _ _ (known spotSays (c .before .before .before .k-address .ensures) (c .before .m .given .1)))
 
 -- src/quick.rt:128:13
 shared-slice-read-w : tie.Need-shared-slice-read-w
-shared-slice-read-w c = k-address-in _ _ _ _ (known spotOf (c .before .before .before .before .k-address .ensures) (c .before .before .m .given .1))
+shared-slice-read-w c = k-address-in _ _ _ _ (known spotSays (c .before .before .before .before .k-address .ensures) (c .before .before .m .given .1))
 
 -- src/quick.rt:129:8
 flag-requires : tie.Need-flag-requires
@@ -52,7 +52,7 @@ flagged-requires c κs = sym (c .before .flag .ensures) ∙ c .if2 .taken
 
 -- src/quick.rt:130:9
 returns-3 : tie.Need-returns-3
-returns-3 c = quick-as _ _ (c .flagged .result) (call-raised _ _ _ _ _ _ (c .before .before .before .before .before .before .before .before .if1 .left) (known spotOf (c .before .before .before .before .before .before .before .k-address .ensures) (c .before .before .before .before .before .m .given .1))) (c .flagged .ensures _ _)
+returns-3 c = quick-as _ _ (c .flagged .result) (call-raised _ _ _ _ _ _ (c .before .before .before .before .before .before .before .before .if1 .left) (known spotSays (c .before .before .before .before .before .before .before .k-address .ensures) (c .before .before .before .before .before .m .given .1))) (c .flagged .ensures _ _)
 
 -- src/quick.rt:132:5
 filled-requires : tie.Need-filled-requires
@@ -60,7 +60,7 @@ filled-requires c κs = search needs
 
 -- src/quick.rt:116:1
 returns-4 : tie.Need-returns-4
-returns-4 c = quick-as _ _ (c .filled .result) (call-operand _ _ _ _ _ _ (c .before .before .before .before .before .before .before .before .if1 .left) (known spotOf (c .before .before .before .before .before .before .before .k-address .ensures) (c .before .before .before .before .before .m .given .1)) (sym (c .before .before .flag .ensures) ∙ c .before .if2 .left)) (c .filled .ensures _ _)
+returns-4 c = quick-as _ _ (c .filled .result) (call-operand _ _ _ _ _ _ (c .before .before .before .before .before .before .before .before .if1 .left) (known spotSays (c .before .before .before .before .before .before .before .k-address .ensures) (c .before .before .before .before .before .m .given .1)) (sym (c .before .before .flag .ensures) ∙ c .before .if2 .left)) (c .filled .ensures _ _)
 
 pub operand-spec : {M : Type 1} → statement M
 operand-spec =

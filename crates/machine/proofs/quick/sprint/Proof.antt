@@ -4,10 +4,10 @@ use mathlib.Core.Path.{_≡_, refl, sym, _∙_, ap}
 use native.Mathlib.Omega.{arith}
 use borrow.Author.Needs.{needs}
 use lib.ListN.{length}
-use Rattle.syllable.specs.declared.Place.{Place}
+use Rattle.syllable.specs.declared.Position.{Position}
 use Rattle.machine.specs.declared.outcome.Registers.{Registers}
-use Rattle.machine.specs.Shapes.{stateOf, partOf}
-use Rattle.machine.specs.Sprints.{upon, Left}
+use Rattle.machine.specs.States.{stateOf}
+use Rattle.machine.specs.ForCode.Answers.{partOf}
 use Rattle.machine.proofs.Calculus.{known}
 use Rattle.machine.proofs.Endings.{syllable-lt, table-length}
 use Rattle.machine.proofs.Sprinting.{hurried-kept, sprints-on, stands}
@@ -20,9 +20,10 @@ use Rattle.machine.proofs.quick.hurry.Reads as hurry-reads
 use Rattle.machine.proofs.quick.joined.Reads as joined-reads
 use Rattle.syllable.proofs.advance.Reads as advance-reads
 use Rattle.syllable.proofs.syllable_at.Reads as syllable-at-reads
+use Rattle.machine.specs.ForCode.Sprints.{upon, restOfRun}
 
 abbrev Inv-loop : tie.InvT-loop
-Inv-loop table core₀ g from budget t₀ n₀ core t n = (from ≤ n) × (n ≤ budget) × (length core ≡ length core₀) × (Left budget from (stateOf core₀ (upon g t₀)) ≡ Left budget n (stateOf core (upon g t)))
+Inv-loop table core₀ g from budget t₀ n₀ core t n = (from ≤ n) × (n ≤ budget) × (length core ≡ length core₀) × (restOfRun budget from (stateOf core₀ (upon g t₀)) ≡ restOfRun budget n (stateOf core (upon g t)))
 
 abbrev μ-loop : tie.MeasureT-loop
 μ-loop table core₀ g from budget t₀ n₀ core t n = budget - n
@@ -77,7 +78,7 @@ advance-requires c κs = search needs
 
 -- src/quick.rt:246:23
 hurry-requires : tie.Need-hurry-requires Inv-loop μ-loop
-hurry-requires c κs = omega (arith, ap (λ (p : Place). p .l) (c .before .advance .ensures))
+hurry-requires c κs = omega (arith, ap (λ (p : Position). p .l) (c .before .advance .ensures))
 
 -- src/quick.rt:247:23
 enum-known-x-2 : tie.Need-enum-known-x-2 Inv-loop μ-loop

@@ -1,4 +1,4 @@
-use Rattle.machine.specs.Shapes.{spotOf}
+use Rattle.machine.specs.ForCode.Answers.{spotSays}
 use Rattle.machine.proofs.Calculus.{known}
 use Rattle.machine.proofs.Sprinting.{stores-kept, stores-all}
 use borrow.Author.Needs.{needs}
@@ -39,7 +39,7 @@ same-length-2 c = search needs
 
 -- src/quick.rt:112:13
 returns-2 : tie.Need-returns-2
-returns-2 c = stores-kept _ _ _ (c .before .before .before .before .before .before .before .before .before .before .if1 .taken) _ _ _ (known spotOf (c .before .before .before .before .before .before .before .before .place .ensures) (c .before .before .before .before .before .before .m .given .1)) (c .before .before .before .put .ensures) (c .if2 .taken)
+returns-2 c = stores-kept _ _ _ (c .before .before .before .before .before .before .before .before .before .before .if1 .taken) _ _ _ (known spotSays (c .before .before .before .before .before .before .before .before .place .ensures) (c .before .before .before .before .before .before .m .given .1)) (c .before .before .before .put .ensures) (c .if2 .taken)
 
 -- src/quick.rt:121:9
 same-length-3 : tie.Need-same-length-3
@@ -47,7 +47,7 @@ same-length-3 c = search needs
 
 -- src/quick.rt:121:9
 returns-3 : tie.Need-returns-3
-returns-3 c = stores-all _ _ _ (c .before .before .before .before .before .before .before .before .before .before .if1 .taken) _ _ _ (known spotOf (c .before .before .before .before .before .before .before .before .place .ensures) (c .before .before .before .before .before .before .m .given .1)) (c .before .before .before .put .ensures) (c .if2 .left)
+returns-3 c = stores-all _ _ _ (c .before .before .before .before .before .before .before .before .before .before .if1 .taken) _ _ _ (known spotSays (c .before .before .before .before .before .before .before .before .place .ensures) (c .before .before .before .before .before .before .m .given .1)) (c .before .before .before .put .ensures) (c .if2 .left)
 
 -- src/quick.rt:100:1
 returns-4 : tie.Need-returns-4

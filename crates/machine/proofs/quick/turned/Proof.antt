@@ -1,6 +1,6 @@
 use native.Mathlib.Omega.{arith}
 use mathlib.Core.Path.{sym, _∙_}
-use Rattle.machine.specs.Shapes.{spotOf}
+use Rattle.machine.specs.ForCode.Answers.{spotSays}
 use Rattle.machine.proofs.Calculus.{known}
 use Rattle.machine.proofs.Landings.{landing-small}
 use Rattle.machine.proofs.Sprinting.{falls-through, lands}
@@ -62,7 +62,7 @@ returns-3 c = search needs
 
 -- src/quick.rt:163:16
 cast-t16 : tie.Need-cast-t16
-cast-t16 c = omega (arith, landing-small _ (c .before .before .before .before .before .before .before .before .before .before .before .before .before .args .t .c) _ _ _ (omega (arith, c .before .before .before .before .before .before .before .before .before .before .before .before .before .good)) (c .before .before .before .before .before .before .before .before .before .before .before .before .before .pre) (known spotOf (c .before .before .before .landing .ensures) (c .before .n .given .1)))
+cast-t16 c = omega (arith, landing-small _ (c .before .before .before .before .before .before .before .before .before .before .before .before .before .args .t .c) _ _ _ (omega (arith, c .before .before .before .before .before .before .before .before .before .before .before .before .before .good)) (c .before .before .before .before .before .before .before .before .before .before .before .before .before .pre) (known spotSays (c .before .before .before .landing .ensures) (c .before .n .given .1)))
 
 -- src/quick.rt:164:16
 cast-t20 : tie.Need-cast-t20
@@ -70,7 +70,7 @@ cast-t20 c = search needs
 
 -- src/quick.rt:158:9
 returns-4 : tie.Need-returns-4
-returns-4 c = λ core g. lands core g _ (c .before .before .before .before .before .before .before .before .before .before .before .if1 .taken) _ _ (c .before .before .before .before .before .before .before .before .before .if2 .left) (sym (c .before .before .before .before .before .before .before .before .flag .ensures) ∙ c .before .before .before .before .before .before .before .if3 .left) (known spotOf (c .before .before .before .landing .ensures) (c .before .n .given .1))
+returns-4 c = λ core g. lands core g _ (c .before .before .before .before .before .before .before .before .before .before .before .if1 .taken) _ _ (c .before .before .before .before .before .before .before .before .before .if2 .left) (sym (c .before .before .before .before .before .before .before .before .flag .ensures) ∙ c .before .before .before .before .before .before .before .if3 .left) (known spotSays (c .before .before .before .landing .ensures) (c .before .n .given .1))
 
 -- src/quick.rt:134:1
 returns-5 : tie.Need-returns-5

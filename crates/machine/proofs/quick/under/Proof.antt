@@ -1,5 +1,5 @@
 use mathlib.Core.Path.{refl}
-use Rattle.machine.specs.Sprints.{underOf}
+use Rattle.machine.specs.ForCode.Sprints.{underOf}
 use Rattle.machine.proofs.Calculus.{isYes, isNo}
 use Rattle.machine.proofs.quick.under.Statement.{statement}
 use Rattle.machine.proofs.quick.under.Tie as tie

@@ -4,8 +4,8 @@ use native.Mathlib.Omega.{arith}
 use borrow.Author.Needs.{needs}
 use lib.ListN.{length}
 use Rattle.machine.specs.Runs.{runFrom}
-use Rattle.machine.specs.Shapes.{stateOf}
-use Rattle.machine.specs.Sprints.{Left}
+use Rattle.machine.specs.States.{stateOf}
+use Rattle.machine.specs.ForCode.Sprints.{restOfRun}
 use Rattle.machine.proofs.Running.{left-none, left-end, goes-on, ends-com, ends-stop}
 use Rattle.machine.proofs.runs.turns.Statement.{statement}
 use Rattle.machine.proofs.runs.turns.Tie as tie
@@ -16,7 +16,7 @@ use Rattle.machine.proofs.steps.execute.Reads as execute-reads
 use Rattle.machine.proofs.steps.number.Reads as number-reads
 
 abbrev Inv-loop : tie.InvT-loop
-Inv-loop table core₀ budget h₀ n₀ core h n = (n ≤ budget) × (length core ≡ length core₀) × (runFrom budget (stateOf core₀ h₀) ≡ Left budget n (stateOf core h))
+Inv-loop table core₀ budget h₀ n₀ core h n = (n ≤ budget) × (length core ≡ length core₀) × (runFrom budget (stateOf core₀ h₀) ≡ restOfRun budget n (stateOf core h))
 
 abbrev μ-loop : tie.MeasureT-loop
 μ-loop table core₀ budget h₀ n₀ core h n = budget - n

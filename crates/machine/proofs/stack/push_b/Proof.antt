@@ -3,7 +3,7 @@ use Rattle.machine.proofs.Sizes.{slot-in}
 use native.Mathlib.Omega.{arith}
 use mathlib.Core.Path.{refl, sym, _∙_}
 use Rattle.machine.proofs.Calculus.{known, isYes, isNo, isGiven, isCut, stays, wrote, becomes, reads, went, cut, kept}
-use Rattle.machine.specs.Shapes.{spotOf, partOf, wentOf}
+use Rattle.machine.specs.ForCode.Answers.{spotSays, partOf, wentOf}
 use borrow.Author.Tests.{lt-ltb, le-ltb, eq-eqb, ne-eqb}
 use borrow.Author.Needs.{needs}
 use Rattle.machine.proofs.stack.push_b.Statement.{statement}
@@ -28,7 +28,7 @@ enum-known-n c = search needs
 -- src/stack.rt:47:17
 returns : tie.Need-returns
 unfolding pushBOf pushOf
-returns c = stays (isYes _ _ (c .before .before .before .before .if1 .taken) (isCut _ (sym (isCut _ (known spotOf (c .before .before .before .slot .ensures) (c .before .n .given .1))))))
+returns c = stays (isYes _ _ (c .before .before .before .before .if1 .taken) (isCut _ (sym (isCut _ (known spotSays (c .before .before .before .slot .ensures) (c .before .n .given .1))))))
 
 -- src/stack.rt:50:9
 put-requires : tie.Need-put-requires
@@ -36,7 +36,7 @@ put-requires c κs = search needs
 
 -- src/stack.rt:52:17
 cast-s : tie.Need-cast-s
-cast-s c = omega (arith, slot-in _ _ _ _ (known spotOf (c .before .before .before .before .before .before .before .slot .ensures) (c .before .before .before .before .before .up .given .1)), c .before .before .before .before .before .before .before .before .before .before .pre)
+cast-s c = omega (arith, slot-in _ _ _ _ (known spotSays (c .before .before .before .before .before .before .before .slot .ensures) (c .before .before .before .before .before .up .given .1)), c .before .before .before .before .before .before .before .before .before .before .pre)
 
 -- src/stack.rt:56:9
 same-length : tie.Need-same-length
@@ -45,7 +45,7 @@ same-length c = search needs
 -- src/stack.rt:56:9
 returns-2 : tie.Need-returns-2
 unfolding pushBOf pushOf
-returns-2 c = wrote (c .before .before .put .ensures) (isYes _ _ (c .before .before .before .before .before .before .before .before .if1 .taken) (isGiven _ (sym (isGiven _ (known spotOf (c .before .before .before .before .before .before .before .slot .ensures) (c .before .before .before .before .before .up .given .1)) refl)) refl))
+returns-2 c = wrote (c .before .before .put .ensures) (isYes _ _ (c .before .before .before .before .before .before .before .before .if1 .taken) (isGiven _ (sym (isGiven _ (known spotSays (c .before .before .before .before .before .before .before .slot .ensures) (c .before .before .before .before .before .up .given .1)) refl)) refl))
 
 -- src/stack.rt:39:1
 returns-3 : tie.Need-returns-3

@@ -1,11 +1,11 @@
-use Rattle.syllable.specs.declared.Place.{Place}
+use Rattle.syllable.specs.declared.Position.{Position}
 use mathlib.Core.Path.{refl, sym, ap, _∙_}
 use native.Mathlib.Omega.{arith}
 use Rattle.machine.proofs.Calculus.{known, reads}
 use Rattle.machine.proofs.Endings.{plains, lasts, plain-reads, ends-reads, ends-as, by-number, ends-unbuilt, by-syllable, by-operator, unfetched, syllable-lt, table-length, fetches, refused, step-next, step-com, step-stop}
 use Rattle.machine.specs.Steps.{operateOf, performOf}
-use Rattle.machine.specs.Shapes.{partOf, binaryOf, joinOf, changeOf, plainAs, lastAs}
-use Rattle.syllable.specs.Numbers.{operatorAt}
+use Rattle.machine.specs.ForCode.Answers.{partOf, binaryOf, joinOf, changeOf, plainAs, lastAs}
+use Rattle.syllable.specs.ForCode.Numbered.{operatorNumbered}
 use borrow.Author.Needs.{needs}
 use Rattle.machine.proofs.steps.execute.Statement.{statement}
 use Rattle.machine.proofs.steps.execute.Tie as tie
@@ -58,7 +58,7 @@ advance-requires c κs = search needs
 
 -- src/steps.rt:206:5
 perform-requires : tie.Need-perform-requires
-perform-requires c κs = (c .before .before .before .before .before .before .before .before .before .before .before .before .pre .0, omega (arith, ap (λ (p : Place). p .l) (c .before .advance .ensures)))
+perform-requires c κs = (c .before .before .before .before .before .before .before .before .before .before .before .before .pre .0, omega (arith, ap (λ (p : Position). p .l) (c .before .advance .ensures)))
 
 -- src/steps.rt:189:1
 same-length-2 : tie.Need-same-length-2

@@ -4,8 +4,8 @@ use native.Mathlib.Omega.{arith}
 use Rattle.machine.proofs.Calculus.{known, reads}
 use Rattle.machine.proofs.Endings.{plains, lasts, plain-reads, ends-reads, ends-as, by-number, ends-unbuilt, by-syllable, by-operator, unfetched, syllable-lt, table-length, fetches, refused, step-next, step-com, step-stop}
 use Rattle.machine.specs.Steps.{operateOf, performOf}
-use Rattle.machine.specs.Shapes.{partOf, binaryOf, joinOf, changeOf, plainAs, lastAs}
-use Rattle.syllable.specs.Numbers.{operatorAt}
+use Rattle.machine.specs.ForCode.Answers.{partOf, binaryOf, joinOf, changeOf, plainAs, lastAs}
+use Rattle.syllable.specs.ForCode.Numbered.{operatorNumbered}
 use borrow.Author.Needs.{needs}
 use Rattle.machine.proofs.steps.operate.Statement.{statement}
 use Rattle.machine.proofs.steps.operate.Tie as tie

@@ -1,6 +1,6 @@
 use borrow.Author.Tests.{lt-ltb, le-ltb}
 use Rattle.machine.specs.Memory.{storeOf}
-use Rattle.machine.specs.Shapes.{wentOf}
+use Rattle.machine.specs.ForCode.Answers.{wentOf}
 use Rattle.machine.specs.Stores.{comOf}
 use mathlib.Core.Path.{refl, sym}
 use Rattle.machine.proofs.Calculus.{known, isYes, isNo, isGiven, isCut, stays, wrote}

@@ -1,5 +1,5 @@
 use native.Mathlib.Omega.{arith}
-use Rattle.machine.specs.Shapes.{wentOf, spotOf}
+use Rattle.machine.specs.ForCode.Answers.{wentOf, spotSays}
 use Rattle.machine.specs.Stores.{lodOf}
 use Rattle.machine.proofs.Placings.{place-in}
 use mathlib.Core.Path.{refl}
@@ -44,20 +44,20 @@ enum-known-n-2 c = search needs
 -- src/stores.rt:58:13
 returns-2 : tie.Need-returns-2
 unfolding lodOf
-returns-2 c = isGiven _ (known (wentOf _) (c .before .before .before .before .before .before .before .a-full .ensures) (c .before .before .before .before .before .h .given .1)) (isCut _ (known spotOf (c .before .before .before .place .ensures) (c .before .n2 .given .1)))
+returns-2 c = isGiven _ (known (wentOf _) (c .before .before .before .before .before .before .before .a-full .ensures) (c .before .before .before .before .before .h .given .1)) (isCut _ (known spotSays (c .before .before .before .place .ensures) (c .before .n2 .given .1)))
 
 -- src/stores.rt:61:13
 mul-w : tie.Need-mul-w
-mul-w c = omega (arith, place-in _ _ _ _ (known spotOf (c .before .before .before .place .ensures) (c .before .m .given .1)))
+mul-w c = omega (arith, place-in _ _ _ _ (known spotSays (c .before .before .before .place .ensures) (c .before .m .given .1)))
 
 -- src/stores.rt:61:13
 shared-slice-read-w : tie.Need-shared-slice-read-w
-shared-slice-read-w c = place-in _ _ _ _ (known spotOf (c .before .before .before .before .place .ensures) (c .before .before .m .given .1))
+shared-slice-read-w c = place-in _ _ _ _ (known spotSays (c .before .before .before .before .place .ensures) (c .before .before .m .given .1))
 
 -- src/stores.rt:46:1
 returns-3 : tie.Need-returns-3
 unfolding lodOf
-returns-3 c = isGiven _ (known (wentOf _) (c .before .before .before .before .before .before .before .before .a-full .ensures) (c .before .before .before .before .before .before .h .given .1)) (isGiven _ (known spotOf (c .before .before .before .before .place .ensures) (c .before .before .m .given .1)) refl)
+returns-3 c = isGiven _ (known (wentOf _) (c .before .before .before .before .before .before .before .before .a-full .ensures) (c .before .before .before .before .before .before .h .given .1)) (isGiven _ (known spotSays (c .before .before .before .before .place .ensures) (c .before .before .m .given .1)) refl)
 
 pub lod-spec : {M : Type 1} → statement M
 lod-spec =

@@ -1,4 +1,4 @@
-use Rattle.machine.specs.Shapes.{wentOf, spotOf}
+use Rattle.machine.specs.ForCode.Answers.{wentOf, spotSays}
 use Rattle.machine.specs.Stores.{sndOf}
 use mathlib.Core.Path.{refl}
 use Rattle.machine.proofs.Calculus.{known, isGiven, isCut, stays, wrote}
@@ -51,7 +51,7 @@ same-length-2 c = search needs
 -- src/stores.rt:79:13
 returns-2 : tie.Need-returns-2
 unfolding sndOf
-returns-2 c = stays (isGiven _ (known (wentOf _) (c .before .before .before .before .before .before .before .before .both-full .ensures) (c .before .before .before .before .before .before .h .given .1)) (isCut _ (known spotOf (c .before .before .before .place .ensures) (c .before .n2 .given .1))))
+returns-2 c = stays (isGiven _ (known (wentOf _) (c .before .before .before .before .before .before .before .before .both-full .ensures) (c .before .before .before .before .before .before .h .given .1)) (isCut _ (known spotSays (c .before .before .before .place .ensures) (c .before .n2 .given .1))))
 
 -- src/stores.rt:82:5
 put-requires : tie.Need-put-requires
@@ -64,7 +64,7 @@ same-length-3 c = search needs
 -- src/stores.rt:67:1
 returns-3 : tie.Need-returns-3
 unfolding sndOf
-returns-3 c = wrote (c .before .before .put .ensures) (isGiven _ (known (wentOf _) (c .before .before .before .before .before .before .before .before .before .before .before .before .both-full .ensures) (c .before .before .before .before .before .before .before .before .before .before .h .given .1)) (isGiven _ (known spotOf (c .before .before .before .before .before .before .before .place .ensures) (c .before .before .before .before .before .m .given .1)) refl))
+returns-3 c = wrote (c .before .before .put .ensures) (isGiven _ (known (wentOf _) (c .before .before .before .before .before .before .before .before .before .before .before .before .both-full .ensures) (c .before .before .before .before .before .before .before .before .before .before .h .given .1)) (isGiven _ (known spotSays (c .before .before .before .before .before .before .before .place .ensures) (c .before .before .before .before .before .m .given .1)) refl))
 
 pub snd-spec : {M : Type 1} → statement M
 snd-spec =

@@ -4,7 +4,7 @@ use Rattle.machine.proofs.Exits.{chain-spent, chain-cut, chain-last, ch
 use borrow.Author.Needs.{needs}
 use mathlib.Core.Path.{_≡_, refl, sym, _∙_}
 use Rattle.machine.proofs.Calculus.{known}
-use Rattle.machine.specs.Shapes.{partOf}
+use Rattle.machine.specs.ForCode.Answers.{partOf}
 use Rattle.machine.proofs.xit.chain.Statement.{statement}
 use Rattle.machine.proofs.xit.chain.Tie as tie
 

@@ -2,7 +2,7 @@
 use Rattle.machine.specs.Marks.{controlOf}
 use mathlib.Core.Path.{refl, sym, _∙_}
 use Rattle.machine.proofs.Calculus.{known, isYes, isNo, isGiven, isCut}
-use Rattle.machine.specs.Shapes.{partOf}
+use Rattle.machine.specs.ForCode.Answers.{partOf}
 use borrow.Author.Needs.{needs}
 use Rattle.machine.proofs.xit.control.Statement.{statement}
 use Rattle.machine.proofs.xit.control.Tie as tie

@@ -2,7 +2,7 @@
 use Rattle.machine.specs.Marks.{leaveOf}
 use Rattle.machine.proofs.Exits.{mark-pos, mark-same, set-all, less-one}
 use Rattle.machine.proofs.Calculus.{known, isGiven, isCut}
-use Rattle.machine.specs.Shapes.{partOf}
+use Rattle.machine.specs.ForCode.Answers.{partOf}
 use borrow.Author.Needs.{needs}
 use Rattle.machine.proofs.xit.leave.Statement.{statement}
 use Rattle.machine.proofs.xit.leave.Tie as tie

@@ -1,7 +1,7 @@
 -- `restore` writes the last mark at 64R+7: every test comes before the one write.
 use mathlib.Core.Path.{refl}
 use Rattle.machine.proofs.Calculus.{known, isYes, isNo, isGiven, isCut, stays, wrote, reads}
-use Rattle.machine.specs.Shapes.{partOf}
+use Rattle.machine.specs.ForCode.Answers.{partOf}
 use borrow.Author.Tests.{lt-ltb, le-ltb}
 use Rattle.machine.specs.Marks.{restoreOf}
 use Rattle.machine.specs.Memory.{storeOf}

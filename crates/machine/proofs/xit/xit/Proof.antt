@@ -1,7 +1,7 @@
 -- `xit` leaves, then restores: the text of xitOf.
 use mathlib.Core.Path.{refl}
 use Rattle.machine.proofs.Calculus.{known, isYes, isNo, isGiven, isCut, stays, becomes, reads}
-use Rattle.machine.specs.Shapes.{wentOf}
+use Rattle.machine.specs.ForCode.Answers.{wentOf}
 use Rattle.machine.specs.Marks.{xitOf}
 use borrow.Author.Needs.{needs}
 use Rattle.machine.proofs.xit.xit.Statement.{statement}

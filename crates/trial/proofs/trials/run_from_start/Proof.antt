@@ -1,5 +1,5 @@
 use Rattle.machine.specs.Runs.{Run}
-use Rattle.trial.specs.Trials.{sumOf}
+use Rattle.trial.specs.Trials.{summaryOf}
 use mathlib.Core.Path.{_≡_, refl, sym, _∙_, ap}
 use Prim.Native.Nat.{_+_, _-_, _≤_}
 use native.Mathlib.Omega.{arith}
@@ -20,7 +20,7 @@ element-copy-out-t10 c = search needs
 
 -- src/trials.rt:50:1
 returns : tie.Need-returns
-returns c = record { sum = ap sumOf (c .before .before .run .ensures); core = ap (λ (x : Run). x .core) (c .before .before .run .ensures) }
+returns c = record { sum = ap summaryOf (c .before .before .run .ensures); core = ap (λ (x : Run). x .core) (c .before .before .run .ensures) }
 
 pub run-from-start-spec : {M : Type 1} → statement M
 run-from-start-spec = tie.close (tie.spec run-requires element-copy-out-t10 returns)

@@ -1,7 +1,7 @@
 -- Where syllables stand in a word, and what comes after a syllable.
 -- Assumes nothing.
 use Prim.Native.Nat.{ℕ, _+_, _*_, _/_, _%_}
-use Rattle.syllable.specs.declared.Place.{Place}
+use Rattle.syllable.specs.declared.Position.{Position}
 use Rattle.word.specs.Field.{field}
 
 -- "Four in a word, L=0 leftmost."
@@ -13,5 +13,5 @@ abbrev pub nextOf : ℕ → ℕ
 nextOf n = (n + 1) % 131072
 
 -- "The step reads at C, L, then advances"
-abbrev pub advanceOf : ℕ → ℕ → Place
+abbrev pub advanceOf : ℕ → ℕ → Position
 advanceOf c l = record { c = nextOf (4 * c + l) / 4; l = nextOf (4 * c + l) % 4 }

@@ -8,12 +8,12 @@ use Rattle.machine.specs.declared.outcome.Registers.{Registers}
 use Rattle.machine.specs.declared.outcome.Hot.{Hot}
 use Rattle.machine.specs.declared.outcome.Hurry.{Hurry}
 use Rattle.machine.specs.declared.outcome.Hurry.the-variants.{On, Slow}
-use Rattle.machine.specs.Outcomes.{Res, on, halt, _>>=_, if_then_else_}
-use Rattle.machine.specs.States.{State}
+use Rattle.machine.specs.Outcomes.{Res, on, halt, _>>=_}
+use Rattle.machine.specs.States.{State, stateOf}
 use Rattle.machine.specs.Calls.{indexOf}
 use Rattle.machine.specs.Steps.{Ended, next}
 use Rattle.machine.specs.Runs.{Run, counted, runFrom}
-use Rattle.machine.specs.Shapes.{stateOf}
+use Rattle.word.specs.Choices.{if_then_else_}
 use Rattle.word.specs.Addresses.{sumOf}
 use Rattle.word.specs.Field.{withField}
 use Rattle.word.specs.Layout.{signOf, presenceOf, sizeOf, addressOf}
@@ -55,5 +55,5 @@ pub record Hurries (core core′ : List ℕ) (g : Registers) (r : Hurry) (o : En
   pub kept : waits r (core′ ≡ core)
 
 -- What is left of a run of b syllables of which n are completed.
-unfoldable pub Left : ℕ → ℕ → State → Run
-Left b n st = counted n (runFrom (b - n) st)
+unfoldable pub restOfRun : ℕ → ℕ → State → Run
+restOfRun b n st = counted n (runFrom (b - n) st)

@@ -3,12 +3,13 @@ use Prim.Native.Nat.{ℕ}
 use mathlib.Core.Bool.{Bool, true, false, not}
 use mathlib.Core.List.{List}
 use Rattle.machine.specs.declared.outcome.Registers.{Registers}
-use Rattle.machine.specs.Outcomes.{Res, on, if_then_else_}
+use Rattle.machine.specs.Outcomes.{Res, on}
 use Rattle.machine.specs.Stack.{slotOf}
 use Rattle.machine.specs.Memory.{inCore}
-use Rattle.machine.specs.States.{setA, setB, setS, setF, setPlace, setFlags}
-use Rattle.machine.specs.Shapes.{putOf}
+use Rattle.machine.specs.States.{setA, setB, setS, setF, setCL, setSalf, setMsff}
+use Rattle.word.specs.Choices.{if_then_else_}
 use Rattle.word.specs.Layout.{addressOf, fFieldOf, mscwOf, rcwOf}
+use Rattle.machine.specs.ForCode.Answers.{putOf}
 
 -- S after a push that is made or not.
 unfoldable pub slotIf : Bool → ℕ → ℕ → ℕ → Res ℕ
@@ -29,9 +30,9 @@ framedOf desc argument g p q s core =
     (putOf (not argument) q (mscwOf (g .r) (g .msff) (g .salf) (g .f)) (putOf (g .bfull) p (g .b) core))
 
 -- Entry: the registers, S being s.
-unfoldable pub insideOf : Bool → Registers → ℕ → ℕ → Registers
-insideOf argument g d s =
-    setFlags (setPlace (setF (setS (setB (setA g false 0) false (emptied (g .bfull) (g .b))) s) (if argument then s else fFieldOf d)) (addressOf d) 0) true false
+unfoldable pub enteredOf : Bool → Registers → ℕ → ℕ → Registers
+enteredOf argument g d s =
+    setMsff (setSalf (setCL (setF (setS (setB (setA g false 0) false (emptied (g .bfull) (g .b))) s) (if argument then s else fFieldOf d)) (addressOf d) 0) true) false
 
 -- MKS: the core with B at p, A at q, the mark at s and, where it is written twice, at m.
 unfoldable pub piledOf : Bool → Registers → ℕ → ℕ → ℕ → ℕ → List ℕ → List ℕ
@@ -42,4 +43,4 @@ piledOf twice g p q s m core =
 -- MKS: the registers, S being s.
 unfoldable pub markedOf : Registers → ℕ → Registers
 markedOf g s =
-    setFlags (setF (setS (setB (setA g false (emptied (g .afull) (g .a))) false (emptied (g .bfull) (g .b))) s) s) (g .salf) true
+    setMsff (setF (setS (setB (setA g false (emptied (g .afull) (g .a))) false (emptied (g .bfull) (g .b))) s) s) true

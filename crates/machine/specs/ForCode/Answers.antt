@@ -21,16 +21,10 @@ use Rattle.machine.specs.declared.outcome.Join.the-variants.{Lnd, Lor, L
 use Rattle.machine.specs.declared.outcome.Change.{Change}
 use Rattle.machine.specs.declared.outcome.Change.the-variants.{Lng, Mop, Mds, Ssp, Ssn, Chs}
 use Rattle.machine.specs.Outcomes.{Res, on, halt}
-use Rattle.machine.specs.States.{State}
+use Rattle.machine.specs.States.{State, stateOf}
 use Rattle.machine.specs.Arithmetics.{reckonOf, relateOf}
 use Rattle.machine.specs.Bits.{lndOf, lorOf, lqvOf, lngOf, mopOf, mdsOf, sspOf, ssnOf, chsOf}
-use Rattle.machine.specs.declared.outcome.Answer.{Answer}
-use Rattle.machine.specs.declared.outcome.Ran.{Ran}
-use Rattle.machine.specs.Runs.{Run}
-use Rattle.machine.specs.Steps.{Ended, next, communicated, stopped, Stepped}
-
-abbrev pub stateOf : List ℕ → Registers → State
-stateOf core g = record { core = core; regs = g }
+use Rattle.machine.specs.Steps.{Ended, next, communicated, stopped}
 
 abbrev pub wentOf : List ℕ → Went → Res State
 wentOf core (On g) = on (stateOf core g)
@@ -40,9 +34,9 @@ abbrev pub partOf : Part → Res ℕ
 partOf (Word w) = on w
 partOf (PartStop n) = halt n
 
-abbrev pub spotOf : Spot → Res ℕ
-spotOf (At m) = on m
-spotOf (SpotStop n) = halt n
+abbrev pub spotSays : Spot → Res ℕ
+spotSays (At m) = on m
+spotSays (SpotStop n) = halt n
 
 abbrev pub doneOf : List ℕ → Done → Ended
 doneOf core (Next g) = next (stateOf core g)
@@ -99,11 +93,3 @@ plainAs (Stop n) = DoneStop n
 abbrev pub lastAs : Went → Done
 lastAs (On g) = Com g
 lastAs (Stop n) = DoneStop n
-
--- A step's answer with the core that it left.
-abbrev pub answered : Answer → List ℕ → Stepped
-answered r core = record { number = r .number; core = core; regs = r .regs }
-
--- A run's answer with the core that it left.
-abbrev pub ranOf : Ran → List ℕ → Run
-ranOf r core = record { stop = r .stop; completed = r .completed; core = core; regs = r .regs }

@@ -15,16 +15,17 @@ use Rattle.inspector.specs.declared.shapes.Effect.the-variants.{Drops, P
 use Rattle.inspector.specs.declared.shapes.Scanned.{Scanned}
 use Rattle.inspector.specs.declared.shapes.Scanned.the-variants.{Height, Broken}
 use Rattle.inspector.specs.Verdicts.{Found, at, nowhere, lowest, given, blamed}
-use Rattle.inspector.specs.Sheets.{entries, recordGood, codeOf, codeWordsOf, sOf, roomOf, rOf, tableOf}
+use Rattle.sheet.specs.Sheets.{entries, codeOf, codeWordsOf, sOf, roomOf, rOf, tableOf, cellOf}
 use Rattle.inspector.specs.Areas.{meets, astray}
-use Rattle.inspector.specs.Cells.{cellOf, unfit}
+use Rattle.inspector.specs.Cells.{unfit}
 use Rattle.inspector.specs.Scan.{Item, literal, number, place, Shape, Left, leaves, breaks, exchanged, writable, within, shapeAt, breaksAt}
 use Rattle.inspector.specs.Targets.{isEmpty, distance, missesTarget}
 use Rattle.machine.specs.Outcomes.{Res, on, halt}
 use Rattle.machine.specs.declared.outcome.Cause.the-variants.{Address}
-use Rattle.syllable.specs.Numbers.{tableOf as numbersOf}
+use Rattle.syllable.specs.Numbers.{operatorNumbers as numbersOf}
 use Rattle.word.specs.Field.{bit}
 use Rattle.word.specs.Layout.{flagOf, presenceOf, sizeOf}
+use Rattle.inspector.specs.Records.{recordGood}
 
 abbrev pub foundOf : Find → Found
 foundOf (At p) = at p
@@ -89,13 +90,13 @@ pub record Knows (sheet : List ℕ) (k a cell : ℕ) (aim nine : Bool) : Type 0 
   pub aimed : aim ≡ writable sheet (itemOf a)
   pub ninth : nine ≡ eqb (cellOf sheet 9) 3
 
-unfoldable pub leftOf : List ℕ → Scanned → Left
-leftOf items (Height h) = leaves (shapeOf items h)
-leftOf items Broken = breaks
+unfoldable pub scannedOf : List ℕ → Scanned → Left
+scannedOf items (Height h) = leaves (shapeOf items h)
+scannedOf items Broken = breaks
 
 -- The items became new, and the shape what a definition leaves.
 pub record Became (room : ℕ) (items new : List ℕ) (r : Scanned) (left : Left) : Type 0 where
-  pub same : leftOf new r ≡ within room left
+  pub same : scannedOf new r ≡ within room left
   pub sized : length new ≡ length items
 
 -- The mark of a shape: 0 of an empty one, k + 1 of one with the literal k on top, 1,025 of the others. How far a branch on it goes.
@@ -146,7 +147,7 @@ pub record Lent (core sheet table marks : List ℕ) : Type 0 where
   pub marked : Marked marks core sheet (4 * codeWordsOf sheet)
 
 -- What rule 31 leaves of the first three records.
-pub record Ranged (sheet : List ℕ) : Type 0 where
+pub record SheetRanged (sheet : List ℕ) : Type 0 where
   pub least : 3 ≤ entries sheet
   pub most : entries sheet ≤ 1027
   pub words : codeWordsOf sheet ≤ 1024
@@ -159,11 +160,11 @@ flowOf core sheet =
     blamed 34 (lowest (breaksAt core sheet) (4 * codeWordsOf sheet) 0)
     (blamed 35 (lowest (missesTarget core sheet) (4 * codeWordsOf sheet) 0) (given 0 0))
 
-abbrev pub insideOf : List ℕ → List ℕ → Verdict
-insideOf core sheet = blamed 33 (lowest (unfit core sheet) (tableOf sheet) 0) (flowOf core sheet)
+abbrev pub cellsOnOf : List ℕ → List ℕ → Verdict
+cellsOnOf core sheet = blamed 33 (lowest (unfit core sheet) (tableOf sheet) 0) (flowOf core sheet)
 
 -- The answer of the rules from 31 on.
 abbrev pub recordsOf : List ℕ → List ℕ → Verdict
 recordsOf core sheet =
     blamed 31 (lowest (λ (i : ℕ). not (recordGood sheet i)) (entries sheet) 0)
-    (blamed 32 (lowest (astray core sheet) 3 0) (insideOf core sheet))
+    (blamed 32 (lowest (astray core sheet) 3 0) (cellsOnOf core sheet))

@@ -22,7 +22,7 @@ abbrev pub Words : List ℕ → Type 0
 Words core = (i : ℕ) → Word (getD core i 0)
 
 -- "S, F, C (15 bits), R (9), L (2)"
-pub record Ranged (g : Registers) : Type 0 where
+pub record InRange (g : Registers) : Type 0 where
   pub a : Holds (g .afull) (g .a)
   pub b : Holds (g .bfull) (g .b)
   pub s : g .s < 32768
@@ -36,7 +36,7 @@ pub record Fit (st : State) : Type 0 where
   pub some : 0 < length (st .core)
   pub most : length (st .core) ≤ 32768
   pub words : Words (st .core)
-  pub regs : Ranged (st .regs)
+  pub regs : InRange (st .regs)
 
 -- What comes of a state is fit, and its core as long.
 pub record Keeps (st u : State) : Type 0 where

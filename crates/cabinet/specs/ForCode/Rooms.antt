@@ -1,0 +1,45 @@
+-- Where a core's words stand while a call works on them.
+use Prim.Native.Nat.{ℕ, _*_, _<_, _≤_}
+use mathlib.Core.Path.{_≡_}
+use mathlib.Core.List.{List}
+use lib.Dec.{leb}
+use lib.ListN.{length, getD}
+use Rattle.word.specs.Choices.{if_then_else_}
+use Rattle.machine.specs.declared.outcome.Registers.{Registers}
+use Rattle.tape.specs.Files.{writeFileOf}
+use Rattle.cabinet.specs.Crossings.{Crossed, crossed, refuses}
+use Rattle.cabinet.specs.Rows.{rowOf}
+
+-- Room for exactly the words that the bytes of a core say.
+pub record Roomy (words core : List ℕ) : Type 0 where
+  pub some : 0 < length words
+  pub most : length words ≤ 32768
+  pub exact : length core ≡ 6 * length words
+
+-- Room for the words of a core of its bytes, and a set of 66 bytes.
+pub record Room (words core regs : List ℕ) : Type 0 where
+  pub some : 0 < length words
+  pub most : length words ≤ 32768
+  pub exact : length core ≡ 6 * length words
+  pub row : length regs ≡ 66
+
+-- What is left by a number, words and a set: tape's writing, where the number does not refuse.
+unfoldable pub writtenBack : ℕ → List ℕ → Registers → List ℕ → List ℕ → Crossed
+writtenBack n words g core regs =
+    if refuses n then crossed n core regs else crossed n (writeFileOf words core) (writeFileOf (rowOf g) regs)
+
+unfoldable pub countBack : ℕ → ℕ → ℕ → ℕ
+countBack n completed old = if refuses n then old else completed
+
+-- The same, where the row's numbers become registers.
+pub record RowRanged (row : List ℕ) : Type 0 where
+  pub eleven : length row ≡ 11
+  pub s : getD row 4 0 < 32768
+  pub f : getD row 5 0 < 32768
+  pub c : getD row 6 0 < 32768
+  pub r : getD row 7 0 < 512
+  pub l : getD row 8 0 < 4
+
+-- A number that 16 bits don't hold is out of every range, as the largest that they hold is.
+unfoldable pub narrowOf : ℕ → ℕ
+narrowOf n = if leb n 65535 then n else 65535

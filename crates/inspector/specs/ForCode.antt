@@ -1,0 +1,2 @@
+-- What only the code's own parts need: no public claim and no theorem names it.
+pub mod Forms

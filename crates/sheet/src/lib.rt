@@ -1,0 +1,1 @@
+// The sheet: its records, and what they say of a segment. The definitions stand in specs/.
