@@ -8,8 +8,8 @@ use lib.ListN.{getD}
 use Rattle.wording.specs.declared.commands.Command.{Command}
 use Rattle.wording.specs.declared.commands.Command.the-variants.{Run, Inspect, Help, Unknown, Miscounted}
 use Rattle.wording.specs.declared.places.Spot.{Spot}
-use Rattle.wording.specs.Commands.{sameOf, countedOf, commandOf, runWord, inspectWord, helpWord}
-use Rattle.wording.specs.Names.{nameAt, nameOf}
+use Rattle.wording.specs.Commands.{sameOf, countedOf, commandOf}
+use Rattle.wording.specs.Texts.{charactersOf}
 use Rattle.wording.specs.Places.{spotOf, recordKindOf}
 use Rattle.wording.specs.Results.{stopStatus, statusOf}
 
@@ -27,34 +27,24 @@ pub counted-right : (c : Command) (count least most : ℕ) → least ≤ count �
 unfolding countedOf
 counted-right c count least most l h = rw (le-ltb count least l, le-ltb most count h)
 
-pub command-run : (text : List ℕ) (count : ℕ) {b : Bool} {r : Command} → b ≡ sameOf text runWord → b ≡ true → r ≡ countedOf Run count 4 6 → r ≡ commandOf text count
+pub command-run : (text : List ℕ) (count : ℕ) {b : Bool} {r : Command} → b ≡ sameOf text (charactersOf "run") → b ≡ true → r ≡ countedOf Run count 4 6 → r ≡ commandOf text count
 unfolding commandOf
 command-run text count s t e = rw (sym s ∙ t) e
 
-pub command-inspect : (text : List ℕ) (count : ℕ) {b d : Bool} {r : Command} → b ≡ sameOf text runWord → b ≡ false → d ≡ sameOf text inspectWord → d ≡ true
+pub command-inspect : (text : List ℕ) (count : ℕ) {b d : Bool} {r : Command} → b ≡ sameOf text (charactersOf "run") → b ≡ false → d ≡ sameOf text (charactersOf "inspect") → d ≡ true
     → r ≡ countedOf Inspect count 4 4 → r ≡ commandOf text count
 unfolding commandOf
 command-inspect text count s t u v e = rw (sym s ∙ t, sym u ∙ v) e
 
-pub command-help : (text : List ℕ) (count : ℕ) {b d f : Bool} → b ≡ sameOf text runWord → b ≡ false → d ≡ sameOf text inspectWord → d ≡ false
-    → f ≡ sameOf text helpWord → f ≡ true → Help ≡ commandOf text count
+pub command-help : (text : List ℕ) (count : ℕ) {b d f : Bool} → b ≡ sameOf text (charactersOf "run") → b ≡ false → d ≡ sameOf text (charactersOf "inspect") → d ≡ false
+    → f ≡ sameOf text (charactersOf "help") → f ≡ true → Help ≡ commandOf text count
 unfolding commandOf
 command-help text count s t u v w x = rw (sym s ∙ t, sym u ∙ v, sym w ∙ x)
 
-pub command-unknown : (text : List ℕ) (count : ℕ) {b d f : Bool} → b ≡ sameOf text runWord → b ≡ false → d ≡ sameOf text inspectWord → d ≡ false
-    → f ≡ sameOf text helpWord → f ≡ false → Unknown ≡ commandOf text count
+pub command-unknown : (text : List ℕ) (count : ℕ) {b d f : Bool} → b ≡ sameOf text (charactersOf "run") → b ≡ false → d ≡ sameOf text (charactersOf "inspect") → d ≡ false
+    → f ≡ sameOf text (charactersOf "help") → f ≡ false → Unknown ≡ commandOf text count
 unfolding commandOf
 command-unknown text count s t u v w x = rw (sym s ∙ t, sym u ∙ v, sym w ∙ x)
-
--- ---- names
-
-pub name-listed : (n : ℕ) {r : List ℕ} → n < 40 → r ≡ nameAt (4 * n) → r ≡ nameOf n
-unfolding nameOf
-name-listed n h e = rw (lt-ltb n 40 h) e
-
-pub name-none : (n : ℕ) {r : List ℕ} → 40 ≤ n → r ≡ nameAt 0 → r ≡ nameOf n
-unfolding nameOf
-name-none n h e = rw (le-ltb n 40 h) e
 
 -- ---- places
 

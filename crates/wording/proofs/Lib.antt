@@ -1,3 +1,4 @@
 pub mod Choices
+pub mod Lined
 pub mod Readings
 pub mod Texts

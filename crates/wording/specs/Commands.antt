@@ -5,6 +5,7 @@ use mathlib.Core.Bool.{Bool, true, false}
 use mathlib.Core.List.{List, [], _∷_}
 use lib.Dec.{eqb, ltb}
 use Rattle.word.specs.Choices.{choose}
+use Rattle.wording.specs.Texts.{charactersOf}
 use Rattle.wording.specs.declared.commands.Command.{Command}
 use Rattle.wording.specs.declared.commands.Command.the-variants.{Run, Inspect, Help, Unknown, Miscounted}
 
@@ -19,18 +20,9 @@ sameOf (x ∷ xs) (y ∷ ys) = choose (eqb x y) (sameOf xs ys) false
 unfoldable pub countedOf : Command → ℕ → ℕ → ℕ → Command
 countedOf c count least most = choose (ltb count least) Miscounted (choose (ltb most count) Miscounted c)
 
-abbrev pub runWord : List ℕ
-runWord = 114 ∷ 117 ∷ 110 ∷ []
-
-abbrev pub inspectWord : List ℕ
-inspectWord = 105 ∷ 110 ∷ 115 ∷ 112 ∷ 101 ∷ 99 ∷ 116 ∷ []
-
-abbrev pub helpWord : List ℕ
-helpWord = 104 ∷ 101 ∷ 108 ∷ 112 ∷ []
-
 -- run CORE SHEET [BUDGET [OUTPUT]], inspect CORE SHEET, help.
 unfoldable pub commandOf : List ℕ → ℕ → Command
 commandOf text count =
-    choose (sameOf text runWord) (countedOf Run count 4 6)
-    (choose (sameOf text inspectWord) (countedOf Inspect count 4 4)
-    (choose (sameOf text helpWord) Help Unknown))
+    choose (sameOf text (charactersOf "run")) (countedOf Run count 4 6)
+    (choose (sameOf text (charactersOf "inspect")) (countedOf Inspect count 4 4)
+    (choose (sameOf text (charactersOf "help")) Help Unknown))
