@@ -12,6 +12,7 @@ use lib.ListN.{length, getD, drop, drop-of-length-le}
 use lib.Seq.{drop-cons}
 use Rattle.word.specs.Layout.{signOf, exponentOf, magnitudeOf}
 use Rattle.word.specs.Numbers.{signed, valueOf, wholeOf}
+use Rattle.word.specs.Choices.{if_then_else_}
 use Rattle.wording.specs.declared.numbers.Reading.the-variants.{Number, Over, Wrong}
 use Rattle.wording.specs.declared.numbers.Signed.{Signed}
 use Rattle.wording.specs.declared.numbers.Signed.the-variants.{Plus, Minus, NotWhole}
@@ -26,12 +27,12 @@ followed-over base most n [] b h = h
 followed-over base most n (c ∷ cs) b h = followed-over base most (n * base + (c - 48)) cs b (omega (arith, le-mul-of-pos-right n b))
 
 over-same : (base most n m : ℕ) (cs : List ℕ) → 0 < base → most < n → most < m → readFrom base most n cs ≡ readFrom base most m cs
-unfolding readFrom
+unfolding readFrom if_then_else_
 over-same base most n m cs b h k =
     rw (lt-leb (followed base n cs) most (followed-over base most n cs b h), lt-leb (followed base m cs) most (followed-over base most m cs b k))
 
 capped-same : (base most n : ℕ) (cs : List ℕ) (t : Bool) → 0 < base → leb n most ≡ t → readFrom base most n cs ≡ readFrom base most (cappedOf n most) cs
-unfolding cappedOf
+unfolding cappedOf if_then_else_
 capped-same base most n cs true b e = rw e
 capped-same base most n cs false b e = rw e (over-same base most n (most + 1) cs b (leb-false n most e) (omega arith))
 
@@ -47,16 +48,16 @@ read-start (c ∷ cs) base most h = refl
 
 pub read-low : (text : List ℕ) (base most n i : ℕ) {c : ℕ} → i < length text → c ≡ getD text i 0 → c < 48 → readingOf text base most ≡ readFrom base most n (drop i text)
     → Wrong ≡ readingOf text base most
-unfolding readFrom areDigits
+unfolding readFrom areDigits if_then_else_
 read-low text base most n i h c l e = sym (e ∙ rw (drop-cons text i 0 h, ← c, lt-leb 48 _ l))
 
 pub read-high : (text : List ℕ) (base most n i : ℕ) {c : ℕ} → i < length text → c ≡ getD text i 0 → 48 ≤ c → base ≤ c - 48
     → readingOf text base most ≡ readFrom base most n (drop i text) → Wrong ≡ readingOf text base most
-unfolding readFrom areDigits
+unfolding readFrom areDigits if_then_else_
 read-high text base most n i h c l m e = sym (e ∙ rw (drop-cons text i 0 h, ← c, le-leb 48 _ l, le-ltb _ base m))
 
 digit-more : (base most n c : ℕ) (cs : List ℕ) → 48 ≤ c → c - 48 < base → readFrom base most n (c ∷ cs) ≡ readFrom base most (cappedOf (n * base + (c - 48)) most) cs
-unfolding readFrom areDigits followed
+unfolding readFrom areDigits followed if_then_else_
 digit-more base most n c cs l m =
     rw (le-leb 48 c l, lt-ltb (c - 48) base m) (capped-same base most (n * base + (c - 48)) cs (leb (n * base + (c - 48)) most) (omega (arith, m)) refl)
 
@@ -66,26 +67,26 @@ read-more text base most n i {c} {v} h k l m w e =
     e ∙ rw (add-one i, drop-cons text i 0 h, ← k, w) (digit-more base most n c (drop (suc i) text) l m)
 
 pub read-in : (text : List ℕ) (base most n i : ℕ) → length text ≤ i → n ≤ most → readingOf text base most ≡ readFrom base most n (drop i text) → Number n ≡ readingOf text base most
-unfolding readFrom areDigits followed
+unfolding readFrom areDigits followed if_then_else_
 read-in text base most n i h l e = sym (e ∙ rw (drop-of-length-le text h, le-leb n most l))
 
 pub read-over : (text : List ℕ) (base most n i : ℕ) → length text ≤ i → most < n → readingOf text base most ≡ readFrom base most n (drop i text) → Over ≡ readingOf text base most
-unfolding readFrom areDigits followed
+unfolding readFrom areDigits followed if_then_else_
 read-over text base most n i h l e = sym (e ∙ rw (drop-of-length-le text h, lt-leb n most l))
 
 pub product : {n b : ℕ} → n ≤ 4294967296 → b ≤ 255 → n * b ≤ 1095216660480
 product h k = mul-le-mul h k
 
 pub capped-in : (n most : ℕ) → n ≤ most → n ≡ cappedOf n most
-unfolding cappedOf
+unfolding cappedOf if_then_else_
 capped-in n most h = rw (le-leb n most h)
 
 pub capped-past : (n most : ℕ) → most < n → most + 1 ≡ cappedOf n most
-unfolding cappedOf
+unfolding cappedOf if_then_else_
 capped-past n most h = rw (lt-leb n most h)
 
 pub capped-small : (n most : ℕ) {v : ℕ} → v ≡ cappedOf n most → v ≤ most + 1
-unfolding cappedOf
+unfolding cappedOf if_then_else_
 capped-small n most {v} e = by-test (leb n most) refl
   where
     by-test : (t : Bool) → leb n most ≡ t → v ≤ most + 1

@@ -5,7 +5,7 @@ use mathlib.Core.Bool.{Bool, true, false, _&&_}
 use mathlib.Core.List.{List, [], _∷_}
 use lib.Dec.{leb, ltb}
 use lib.IntN.{ℤ, pos, negsuc}
-use Rattle.word.specs.Choices.{choose}
+use Rattle.word.specs.Choices.{if_then_else_}
 use Rattle.word.specs.declared.number.Whole.{Whole}
 use Rattle.word.specs.declared.number.Whole.the-variants.{Number as Known, NotWhole as Unknown}
 use Rattle.wording.specs.declared.numbers.Reading.{Reading}
@@ -21,7 +21,7 @@ isDigit base c = leb 48 c && ltb (c - 48) base
 
 unfoldable pub areDigits : ℕ → List ℕ → Bool
 areDigits base [] = true
-areDigits base (c ∷ cs) = choose (isDigit base c) (areDigits base cs) false
+areDigits base (c ∷ cs) = isDigit base c && areDigits base cs
 
 -- The number n with the text's digits after it.
 unfoldable pub followed : ℕ → ℕ → List ℕ → ℕ
@@ -29,11 +29,11 @@ followed base n [] = n
 followed base n (c ∷ cs) = followed base (n * base + (c - 48)) cs
 
 abbrev pub atMost : ℕ → ℕ → Reading
-atMost most n = choose (leb n most) (Number n) Over
+atMost most n = if leb n most then Number n else Over
 
 -- What n and the digits after it are read as.
 unfoldable pub readFrom : ℕ → ℕ → ℕ → List ℕ → Reading
-readFrom base most n cs = choose (areDigits base cs) (atMost most (followed base n cs)) Wrong
+readFrom base most n cs = if areDigits base cs then atMost most (followed base n cs) else Wrong
 
 -- A number at most `most`, in one digit or more.
 unfoldable pub readingOf : List ℕ → ℕ → ℕ → Reading

@@ -2,12 +2,12 @@
 use Prim.Native.Nat.{ℕ, zero, suc, _+_}
 use mathlib.Core.Bool.{Bool, true, false}
 use lib.Dec.{leb}
-use Rattle.word.specs.Choices.{choose}
+use Rattle.word.specs.Choices.{if_then_else_}
 use Rattle.wording.specs.declared.numbers.Signed.{Signed}
 use Rattle.wording.specs.declared.numbers.Signed.the-variants.{Plus, Minus}
 
 unfoldable pub cappedOf : ℕ → ℕ → ℕ
-cappedOf n most = choose (leb n most) n (most + 1)
+cappedOf n most = if leb n most then n else most + 1
 
 -- Zero has no sign.
 abbrev pub plainSigned : Bool → ℕ → Signed
