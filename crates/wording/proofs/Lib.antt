@@ -1,4 +1,5 @@
 pub mod Choices
 pub mod Lined
+pub mod OneAnswer
 pub mod Readings
 pub mod Texts
