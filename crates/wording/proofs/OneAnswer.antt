@@ -1,6 +1,11 @@
 -- Any two permitted answers of a call are equal, and so is what they leave behind its references.
-use mathlib.Core.Path.{_≡_}
+use Prim.Native.Nat.{ℕ}
+use mathlib.Core.Path.{_≡_, refl, sym, _∙_, ap}
+use mathlib.Core.Bool.{Bool, true, false}
 use Rattle.word.proofs.Sole.{sole}
+use Rattle.wording.specs.declared.numbers.Signed.{Signed}
+use Rattle.wording.specs.declared.numbers.Signed.the-variants.{Plus, Minus, NotWhole}
+use Rattle.wording.specs.Numbers.{OrNumber, the, givenBack, saysSigned}
 use Rattle.wording.proofs.commands.command_of.Reads as command-of
 use Rattle.wording.proofs.names.name_of.Reads as name-of
 use Rattle.wording.proofs.numbers.number_of.Reads as number-of
@@ -19,8 +24,18 @@ name-of-sole κs a r r′ e e′ p q = sole p q
 pub number-of-sole : (κs : _) (a : _) (r r′ : _) (e e′ : _) → number-of.Learnt κs a r e → number-of.Learnt κs a r′ e′ → r ≡ r′
 number-of-sole κs a r r′ e e′ p q = sole p q
 
+abbrev unsaid : OrNumber (Bool × ℕ) → Signed
+unsaid (the (false, m)) = Plus m
+unsaid (the (true, m)) = Minus m
+unsaid (givenBack n) = NotWhole
+
+comes-back : (r : Signed) → unsaid (saysSigned r) ≡ r
+comes-back (Plus m) = refl
+comes-back (Minus m) = refl
+comes-back NotWhole = refl
+
 pub signed-of-sole : (κs : _) (a : _) (r r′ : _) (e e′ : _) → signed-of.Learnt κs a r e → signed-of.Learnt κs a r′ e′ → r ≡ r′
-signed-of-sole κs a r r′ e e′ p q = sole p q
+signed-of-sole κs a r r′ e e′ p q = sym (comes-back r) ∙ ap unsaid (sole p q) ∙ comes-back r′
 
 pub kind-at-sole : (κs : _) (a : _) (r r′ : _) (e e′ : _) → kind-at.Learnt κs a r e → kind-at.Learnt κs a r′ e′ → r ≡ r′
 kind-at-sole κs a r r′ e e′ p q = sole p q

@@ -1,6 +1,6 @@
 -- Laws of a number read from text: i characters are read, and n is what they say, held one past the most.
 use Prim.Native.Nat.{ℕ, zero, suc, _+_, _-_, _*_, _≤_, _<_}
-use mathlib.Core.Path.{_≡_, refl, sym, _∙_, ap}
+use mathlib.Core.Path.{_≡_, refl, sym, _∙_}
 use mathlib.Core.Bool.{Bool, true, false}
 use mathlib.Core.List.{List, [], _∷_}
 use native.Mathlib.Omega.{arith}
@@ -8,16 +8,16 @@ use native.Mathlib.Nat.{le-mul-of-pos-right, mul-le-mul}
 use native.Mathlib.Numerals.{add-one}
 use borrow.Author.Tests.{lt-ltb, le-ltb, le-leb, lt-leb, leb-true, leb-false, eq-eqb, ne-eqb}
 use lib.Dec.{leb}
+use lib.IntN.{natAbs}
 use lib.ListN.{length, getD, drop, drop-of-length-le}
 use lib.Seq.{drop-cons}
 use Rattle.word.specs.Layout.{signOf, exponentOf, magnitudeOf}
-use Rattle.word.specs.Numbers.{signed, valueOf, wholeOf}
+use Rattle.word.specs.Numbers.{signed, negative, valueOf, wholeOf}
 use Rattle.word.specs.Choices.{if_then_else_}
 use Rattle.wording.specs.declared.numbers.Reading.the-variants.{Number, Over, Wrong}
-use Rattle.wording.specs.declared.numbers.Signed.{Signed}
 use Rattle.wording.specs.declared.numbers.Signed.the-variants.{Plus, Minus, NotWhole}
-use Rattle.wording.specs.Numbers.{areDigits, followed, readFrom, readingOf, signedInt, signedOf}
-use Rattle.wording.specs.ForCode.Caps.{cappedOf, plainSigned}
+use Rattle.wording.specs.Numbers.{areDigits, followed, readFrom, readingOf, OrNumber, the, saysSigned, signedOf}
+use Rattle.wording.specs.ForCode.Caps.{cappedOf}
 
 -- ---- from text
 
@@ -95,33 +95,26 @@ capped-small n most {v} e = by-test (leb n most) refl
 
 -- ---- a word
 
-by-sign : (b : Bool) (m : ℕ) → plainSigned b m ≡ signedInt (signed b m)
-by-sign true zero = refl
-by-sign true (suc n) = refl
-by-sign false m = refl
+-- what a sign and a magnitude say
+abbrev said : Bool → ℕ → OrNumber (Bool × ℕ)
+said b m = the (negative (signed b m), natAbs (signed b m))
 
-pub signed-minus : (b : Bool) (m : ℕ) → b ≡ true → 0 < m → Minus m ≡ plainSigned b m
-signed-minus true zero e h = absurd (omega (arith, h))
-signed-minus true (suc n) e h = refl
-signed-minus false m e h = absurd (omega (arith, ap (λ (t : Bool). one t) e))
-  where
-    one : Bool → ℕ
-    one true = 1
-    one false = 0
+pub signed-minus : (b : Bool) (m : ℕ) → b ≡ true → 0 < m → saysSigned (Minus m) ≡ said b m
+signed-minus b zero e h = absurd (omega (arith, h))
+signed-minus b (suc n) e h = rw e
 
-pub signed-zero : (b : Bool) (m : ℕ) → m ≤ 0 → Plus 0 ≡ plainSigned b m
+pub signed-zero : (b : Bool) (m : ℕ) → m ≤ 0 → saysSigned (Plus 0) ≡ said b m
 signed-zero true zero h = refl
-signed-zero true (suc n) h = absurd (omega (arith, h))
 signed-zero false zero h = refl
-signed-zero false (suc n) h = absurd (omega (arith, h))
+signed-zero b (suc n) h = absurd (omega (arith, h))
 
-pub signed-plus : (b : Bool) (m : ℕ) → b ≡ false → Plus m ≡ plainSigned b m
+pub signed-plus : (b : Bool) (m : ℕ) → b ≡ false → saysSigned (Plus m) ≡ said b m
 signed-plus b m e = rw e
 
-pub signed-whole : (w : ℕ) {x m : ℕ} {b : Bool} {r : Signed} → x ≡ exponentOf w → x ≡ 0 → b ≡ signOf w → m ≡ magnitudeOf w → r ≡ plainSigned b m → r ≡ signedOf (wholeOf w)
+pub signed-whole : (w : ℕ) {x m : ℕ} {b : Bool} {v : OrNumber (Bool × ℕ)} → x ≡ exponentOf w → x ≡ 0 → b ≡ signOf w → m ≡ magnitudeOf w → v ≡ said b m → v ≡ signedOf (wholeOf w)
 unfolding wholeOf valueOf
-signed-whole w x z b m e = e ∙ rw (eq-eqb (exponentOf w) 0 (sym x ∙ z), b, m) (by-sign (signOf w) (magnitudeOf w))
+signed-whole w x z b m e = e ∙ rw (eq-eqb (exponentOf w) 0 (sym x ∙ z), b, m)
 
-pub signed-none : (w : ℕ) {x : ℕ} → x ≡ exponentOf w → (x ≡ 0 → ⊥) → NotWhole ≡ signedOf (wholeOf w)
+pub signed-none : (w : ℕ) {x : ℕ} → x ≡ exponentOf w → (x ≡ 0 → ⊥) → saysSigned NotWhole ≡ signedOf (wholeOf w)
 unfolding wholeOf
 signed-none w x h = rw (ne-eqb (exponentOf w) 0 (λ z. h (x ∙ z)))

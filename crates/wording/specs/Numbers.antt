@@ -1,11 +1,12 @@
 -- Numbers from text, and words as signed numbers.
 -- Assumes nothing.
-use Prim.Native.Nat.{ℕ, zero, suc, _+_, _-_, _*_}
+use Prim.Native.Nat.{ℕ, _+_, _-_, _*_}
 use mathlib.Core.Bool.{Bool, true, false, _&&_}
 use mathlib.Core.List.{List, [], _∷_}
 use lib.Dec.{leb, ltb}
-use lib.IntN.{ℤ, pos, negsuc}
+use lib.IntN.{natAbs}
 use Rattle.word.specs.Choices.{if_then_else_}
+use Rattle.word.specs.Numbers.{negative}
 use Rattle.word.specs.declared.number.Whole.{Whole}
 use Rattle.word.specs.declared.number.Whole.the-variants.{Number as Known, NotWhole as Unknown}
 use Rattle.wording.specs.declared.numbers.Reading.{Reading}
@@ -42,10 +43,17 @@ readingOf (c ∷ cs) base most = readFrom base most 0 (c ∷ cs)
 
 -- ---- a word
 
-abbrev pub signedInt : ℤ → Signed
-signedInt (pos n) = Plus n
-signedInt (negsuc n) = Minus (suc n)
+-- "Numbers given back": a value, or the number given back in its place.
+pub data OrNumber (A : Type 0) : Type 0 where
+  the : A → OrNumber A
+  givenBack : ℕ → OrNumber A
 
-abbrev pub signedOf : Whole → Signed
-signedOf (Known z) = signedInt z
-signedOf Unknown = NotWhole
+-- Minus or not, and the magnitude; "20: number not whole 39-bit"
+abbrev pub saysSigned : Signed → OrNumber (Bool × ℕ)
+saysSigned (Plus m) = the (false, m)
+saysSigned (Minus m) = the (true, m)
+saysSigned NotWhole = givenBack 20
+
+abbrev pub signedOf : Whole → OrNumber (Bool × ℕ)
+signedOf (Known z) = the (negative z, natAbs z)
+signedOf Unknown = givenBack 20

@@ -1,9 +1,10 @@
 // Numbers from text, and words as signed numbers.
 ghost use mathlib.Core.Path.{_≡_};
 ghost use Prim.Native.Nat.{_<_};
-ghost use Rattle.word.specs.Numbers.{wholeOf};
-ghost use Rattle.wording.specs.Numbers.{readingOf, signedOf};
-ghost use Rattle.wording.specs.ForCode.Caps.{cappedOf, plainSigned};
+ghost use lib.IntN.{natAbs};
+ghost use Rattle.word.specs.Numbers.{signed, negative, wholeOf};
+ghost use Rattle.wording.specs.Numbers.{readingOf, the, saysSigned, signedOf};
+ghost use Rattle.wording.specs.ForCode.Caps.{cappedOf};
 
 // What a text was read as.
 pub enum Reading {
@@ -66,7 +67,7 @@ fn capped(n: u64, most: u64) -> u64
 
 // The signed whole number of a word.
 pub fn signed_of(w: u64) -> Signed
-    ensures { λ r. ⌜ r ≡ signedOf (wholeOf w) ⌝ }
+    ensures { λ r. ⌜ saysSigned r ≡ signedOf (wholeOf w) ⌝ }
 {
     if word::exponent(w) == 0 {
         return by_sign(word::sign(w), word::magnitude(w));
@@ -75,7 +76,7 @@ pub fn signed_of(w: u64) -> Signed
 }
 
 fn by_sign(minus: bool, m: u64) -> Signed
-    ensures { λ r. ⌜ r ≡ plainSigned minus m ⌝ }
+    ensures { λ r. ⌜ saysSigned r ≡ the (negative (signed minus m), natAbs (signed minus m)) ⌝ }
 {
     if minus {
         if 0 < m {
