@@ -8,10 +8,10 @@ use lib.ListN.{getD}
 use Rattle.word.specs.Choices.{if_then_else_}
 use Rattle.wording.specs.declared.commands.Command.{Command}
 use Rattle.wording.specs.declared.commands.Command.the-variants.{Run, Inspect, Help, Unknown, Miscounted}
-use Rattle.wording.specs.declared.places.Spot.{Spot}
+use Rattle.wording.specs.declared.places.CodePlace.{CodePlace}
 use Rattle.wording.specs.Commands.{sameOf, countedOf, commandOf}
 use Rattle.wording.specs.Texts.{charactersOf}
-use Rattle.wording.specs.Places.{spotOf, recordKindOf}
+use Rattle.wording.specs.Places.{codePlaceOf, recordKindOf}
 use Rattle.wording.specs.Results.{stopStatus, statusOf}
 
 -- ---- commands
@@ -49,9 +49,9 @@ command-unknown text count s t u v w x = rw (sym s ∙ t, sym u ∙ v, sym w ∙
 
 -- ---- places
 
-pub spot-at : (sheet : List ℕ) (place : ℕ) {a b : ℕ} → a ≡ getD sheet 2 0 → b ≡ getD sheet 3 0 → _≡_ {A = Spot} (record { word = 256 * a + b + place / 4; syllable = place % 4 }) (spotOf sheet place)
-unfolding spotOf
-spot-at sheet place a b = rw (a, b)
+pub code-place : (sheet : List ℕ) (place : ℕ) {a b : ℕ} → a ≡ getD sheet 2 0 → b ≡ getD sheet 3 0 → _≡_ {A = CodePlace} (record { word = 256 * a + b + place / 4; syllable = place % 4 }) (codePlaceOf sheet place)
+unfolding codePlaceOf
+code-place sheet place a b = rw (a, b)
 
 -- ---- kinds
 

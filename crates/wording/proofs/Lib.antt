@@ -1,5 +1,6 @@
 pub mod Choices
+pub mod FromText
 pub mod Lined
 pub mod OneAnswer
-pub mod Readings
+pub mod Signs
 pub mod Texts

@@ -5,11 +5,11 @@ use mathlib.Core.List.{List}
 use lib.Dec.{eqb, ltb}
 use Rattle.word.specs.Choices.{if_then_else_}
 use Rattle.sheet.specs.Sheets.{entryAt, codeOf}
-use Rattle.wording.specs.declared.places.Spot.{Spot}
+use Rattle.wording.specs.declared.places.CodePlace.{CodePlace}
 
 -- "Four in a word, L=0 leftmost"; "syllables count from 0"
-unfoldable pub spotOf : List ℕ → ℕ → Spot
-spotOf sheet place = record { word = codeOf sheet + place / 4; syllable = place % 4 }
+unfoldable pub codePlaceOf : List ℕ → ℕ → CodePlace
+codePlaceOf sheet place = record { word = codeOf sheet + place / 4; syllable = place % 4 }
 
 -- "Record 0: kind 1 .. Record 1: kind 2 .. Record 2: kind 5 .. Then kind 3 number cells or kind 4 array cells". A sheet has at most 1,027 records.
 unfoldable pub recordKindOf : List ℕ → ℕ → ℕ

@@ -1,25 +1,19 @@
 -- Laws of a number read from text: i characters are read, and n is what they say, held one past the most.
-use Prim.Native.Nat.{ℕ, zero, suc, _+_, _-_, _*_, _≤_, _<_}
+use Prim.Native.Nat.{ℕ, suc, _+_, _-_, _*_, _≤_, _<_}
 use mathlib.Core.Path.{_≡_, refl, sym, _∙_}
 use mathlib.Core.Bool.{Bool, true, false}
 use mathlib.Core.List.{List, [], _∷_}
 use native.Mathlib.Omega.{arith}
 use native.Mathlib.Nat.{le-mul-of-pos-right, mul-le-mul}
 use native.Mathlib.Numerals.{add-one}
-use borrow.Author.Tests.{lt-ltb, le-ltb, le-leb, lt-leb, leb-true, leb-false, eq-eqb, ne-eqb}
+use borrow.Author.Tests.{lt-ltb, le-ltb, le-leb, lt-leb, leb-true, leb-false}
 use lib.Dec.{leb}
-use lib.IntN.{natAbs}
 use lib.ListN.{length, getD, drop, drop-of-length-le}
 use lib.Seq.{drop-cons}
-use Rattle.word.specs.Layout.{signOf, exponentOf, magnitudeOf}
-use Rattle.word.specs.Numbers.{signed, negative, valueOf, wholeOf}
 use Rattle.word.specs.Choices.{if_then_else_}
-use Rattle.wording.specs.declared.numbers.Reading.the-variants.{Number, Over, Wrong}
-use Rattle.wording.specs.declared.numbers.Signed.the-variants.{Plus, Minus, NotWhole}
-use Rattle.wording.specs.Numbers.{areDigits, followed, readFrom, readingOf, OrNumber, the, saysSigned, signedOf}
+use Rattle.wording.specs.declared.numbers.FromText.the-variants.{Number, Over, Wrong}
+use Rattle.wording.specs.FromText.{areDigits, followed, readFrom, fromTextOf}
 use Rattle.wording.specs.ForCode.Caps.{cappedOf}
-
--- ---- from text
 
 followed-over : (base most n : ℕ) (cs : List ℕ) → 0 < base → most < n → most < followed base n cs
 unfolding followed
@@ -36,23 +30,23 @@ unfolding cappedOf if_then_else_
 capped-same base most n cs true b e = rw e
 capped-same base most n cs false b e = rw e (over-same base most n (most + 1) cs b (leb-false n most e) (omega arith))
 
-pub read-none : (text : List ℕ) (base most : ℕ) → length text ≡ 0 → Wrong ≡ readingOf text base most
-unfolding readingOf
+pub read-none : (text : List ℕ) (base most : ℕ) → length text ≡ 0 → Wrong ≡ fromTextOf text base most
+unfolding fromTextOf
 read-none [] base most e = refl
 read-none (c ∷ cs) base most e = absurd (omega (arith, e))
 
-pub read-start : (text : List ℕ) (base most : ℕ) → (length text ≡ 0 → ⊥) → readingOf text base most ≡ readFrom base most 0 (drop 0 text)
-unfolding readingOf
+pub read-start : (text : List ℕ) (base most : ℕ) → (length text ≡ 0 → ⊥) → fromTextOf text base most ≡ readFrom base most 0 (drop 0 text)
+unfolding fromTextOf
 read-start [] base most h = absurd (h refl)
 read-start (c ∷ cs) base most h = refl
 
-pub read-low : (text : List ℕ) (base most n i : ℕ) {c : ℕ} → i < length text → c ≡ getD text i 0 → c < 48 → readingOf text base most ≡ readFrom base most n (drop i text)
-    → Wrong ≡ readingOf text base most
+pub read-low : (text : List ℕ) (base most n i : ℕ) {c : ℕ} → i < length text → c ≡ getD text i 0 → c < 48 → fromTextOf text base most ≡ readFrom base most n (drop i text)
+    → Wrong ≡ fromTextOf text base most
 unfolding readFrom areDigits if_then_else_
 read-low text base most n i h c l e = sym (e ∙ rw (drop-cons text i 0 h, ← c, lt-leb 48 _ l))
 
 pub read-high : (text : List ℕ) (base most n i : ℕ) {c : ℕ} → i < length text → c ≡ getD text i 0 → 48 ≤ c → base ≤ c - 48
-    → readingOf text base most ≡ readFrom base most n (drop i text) → Wrong ≡ readingOf text base most
+    → fromTextOf text base most ≡ readFrom base most n (drop i text) → Wrong ≡ fromTextOf text base most
 unfolding readFrom areDigits if_then_else_
 read-high text base most n i h c l m e = sym (e ∙ rw (drop-cons text i 0 h, ← c, le-leb 48 _ l, le-ltb _ base m))
 
@@ -62,15 +56,15 @@ digit-more base most n c cs l m =
     rw (le-leb 48 c l, lt-ltb (c - 48) base m) (capped-same base most (n * base + (c - 48)) cs (leb (n * base + (c - 48)) most) (omega (arith, m)) refl)
 
 pub read-more : (text : List ℕ) (base most n i : ℕ) {c v : ℕ} → i < length text → c ≡ getD text i 0 → 48 ≤ c → c - 48 < base → v ≡ cappedOf (n * base + (c - 48)) most
-    → readingOf text base most ≡ readFrom base most n (drop i text) → readingOf text base most ≡ readFrom base most v (drop (i + 1) text)
+    → fromTextOf text base most ≡ readFrom base most n (drop i text) → fromTextOf text base most ≡ readFrom base most v (drop (i + 1) text)
 read-more text base most n i {c} {v} h k l m w e =
     e ∙ rw (add-one i, drop-cons text i 0 h, ← k, w) (digit-more base most n c (drop (suc i) text) l m)
 
-pub read-in : (text : List ℕ) (base most n i : ℕ) → length text ≤ i → n ≤ most → readingOf text base most ≡ readFrom base most n (drop i text) → Number n ≡ readingOf text base most
+pub read-in : (text : List ℕ) (base most n i : ℕ) → length text ≤ i → n ≤ most → fromTextOf text base most ≡ readFrom base most n (drop i text) → Number n ≡ fromTextOf text base most
 unfolding readFrom areDigits followed if_then_else_
 read-in text base most n i h l e = sym (e ∙ rw (drop-of-length-le text h, le-leb n most l))
 
-pub read-over : (text : List ℕ) (base most n i : ℕ) → length text ≤ i → most < n → readingOf text base most ≡ readFrom base most n (drop i text) → Over ≡ readingOf text base most
+pub read-over : (text : List ℕ) (base most n i : ℕ) → length text ≤ i → most < n → fromTextOf text base most ≡ readFrom base most n (drop i text) → Over ≡ fromTextOf text base most
 unfolding readFrom areDigits followed if_then_else_
 read-over text base most n i h l e = sym (e ∙ rw (drop-of-length-le text h, lt-leb n most l))
 
@@ -92,29 +86,3 @@ capped-small n most {v} e = by-test (leb n most) refl
     by-test : (t : Bool) → leb n most ≡ t → v ≤ most + 1
     by-test true t = let s : v ≡ n = e ∙ rw t in omega (arith, s, leb-true n most t)
     by-test false t = let s : v ≡ most + 1 = e ∙ rw t in omega (arith, s)
-
--- ---- a word
-
--- what a sign and a magnitude say
-abbrev said : Bool → ℕ → OrNumber (Bool × ℕ)
-said b m = the (negative (signed b m), natAbs (signed b m))
-
-pub signed-minus : (b : Bool) (m : ℕ) → b ≡ true → 0 < m → saysSigned (Minus m) ≡ said b m
-signed-minus b zero e h = absurd (omega (arith, h))
-signed-minus b (suc n) e h = rw e
-
-pub signed-zero : (b : Bool) (m : ℕ) → m ≤ 0 → saysSigned (Plus 0) ≡ said b m
-signed-zero true zero h = refl
-signed-zero false zero h = refl
-signed-zero b (suc n) h = absurd (omega (arith, h))
-
-pub signed-plus : (b : Bool) (m : ℕ) → b ≡ false → saysSigned (Plus m) ≡ said b m
-signed-plus b m e = rw e
-
-pub signed-whole : (w : ℕ) {x m : ℕ} {b : Bool} {v : OrNumber (Bool × ℕ)} → x ≡ exponentOf w → x ≡ 0 → b ≡ signOf w → m ≡ magnitudeOf w → v ≡ said b m → v ≡ signedOf (wholeOf w)
-unfolding wholeOf valueOf
-signed-whole w x z b m e = e ∙ rw (eq-eqb (exponentOf w) 0 (sym x ∙ z), b, m)
-
-pub signed-none : (w : ℕ) {x : ℕ} → x ≡ exponentOf w → (x ≡ 0 → ⊥) → saysSigned NotWhole ≡ signedOf (wholeOf w)
-unfolding wholeOf
-signed-none w x h = rw (ne-eqb (exponentOf w) 0 (λ z. h (x ∙ z)))
