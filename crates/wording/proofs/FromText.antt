@@ -1,19 +1,28 @@
 -- Laws of a number read from text: i characters are read, and n is what they say, held one past the most.
-use Prim.Native.Nat.{ℕ, suc, _+_, _-_, _*_, _≤_, _<_}
+use Prim.Native.Nat.{ℕ, suc, _+_, _-_, _*_, _^_, _≤_, _<_}
 use mathlib.Core.Path.{_≡_, refl, sym, _∙_}
 use mathlib.Core.Bool.{Bool, true, false}
-use mathlib.Core.List.{List, [], _∷_}
+use mathlib.Core.List.{List, [], _∷_, map}
 use native.Mathlib.Omega.{arith}
-use native.Mathlib.Nat.{le-mul-of-pos-right, mul-le-mul}
+use native.Mathlib.Nat.{le-mul-of-pos-right, mul-le-mul, add-mul, mul-assoc, pow-zero, pow-succ'}
 use native.Mathlib.Numerals.{add-one}
 use borrow.Author.Tests.{lt-ltb, le-ltb, le-leb, lt-leb, leb-true, leb-false}
 use lib.Dec.{leb}
-use lib.ListN.{length, getD, drop, drop-of-length-le}
+use lib.ListN.{length, getD, drop, length-map, drop-of-length-le}
 use lib.Seq.{drop-cons}
 use Rattle.word.specs.Choices.{if_then_else_}
+use Rattle.word.specs.Digits.{numeral}
 use Rattle.wording.specs.declared.numbers.FromText.the-variants.{Number, Over, Wrong}
-use Rattle.wording.specs.FromText.{areDigits, followed, readFrom, fromTextOf}
-use Rattle.wording.specs.ForCode.Caps.{cappedOf}
+use Rattle.wording.specs.FromText.{digitOf, areDigits, fromTextOf}
+use Rattle.wording.specs.ForCode.Caps.{followed, readFrom, cappedOf}
+
+-- The digits one by one are the number that all of them say.
+followed-numeral : (base n : ℕ) (cs : List ℕ) → followed base n cs ≡ n * base ^ length cs + numeral base (map digitOf cs)
+unfolding followed numeral
+followed-numeral base n [] = rw (pow-zero base) (omega arith)
+followed-numeral base n (c ∷ cs) =
+    followed-numeral base (n * base + digitOf c) cs
+    ∙ rw (length-map cs digitOf, add-mul (n * base) (digitOf c) (base ^ length cs), mul-assoc n base (base ^ length cs), pow-succ' base (length cs)) (omega arith)
 
 followed-over : (base most n : ℕ) (cs : List ℕ) → 0 < base → most < n → most < followed base n cs
 unfolding followed
@@ -36,9 +45,11 @@ read-none [] base most e = refl
 read-none (c ∷ cs) base most e = absurd (omega (arith, e))
 
 pub read-start : (text : List ℕ) (base most : ℕ) → (length text ≡ 0 → ⊥) → fromTextOf text base most ≡ readFrom base most 0 (drop 0 text)
-unfolding fromTextOf
+unfolding fromTextOf readFrom
 read-start [] base most h = absurd (h refl)
-read-start (c ∷ cs) base most h = refl
+read-start (c ∷ cs) base most h =
+    let e : followed base 0 (c ∷ cs) ≡ numeral base (map digitOf (c ∷ cs)) = followed-numeral base 0 (c ∷ cs) ∙ omega arith in
+    rw e
 
 pub read-low : (text : List ℕ) (base most n i : ℕ) {c : ℕ} → i < length text → c ≡ getD text i 0 → c < 48 → fromTextOf text base most ≡ readFrom base most n (drop i text)
     → Wrong ≡ fromTextOf text base most

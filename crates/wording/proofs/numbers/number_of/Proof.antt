@@ -1,6 +1,7 @@
 use Prim.Native.Nat.{_+_, _-_, _≤_}
 use lib.ListN.{length, drop}
-use Rattle.wording.specs.FromText.{fromTextOf, readFrom}
+use Rattle.wording.specs.FromText.{fromTextOf}
+use Rattle.wording.specs.ForCode.Caps.{readFrom}
 use Rattle.wording.proofs.FromText.{read-none, read-start, read-low, read-high, read-more, read-in, read-over, product, capped-small}
 use mathlib.Core.Path.{_≡_}
 use native.Mathlib.Omega.{arith}
