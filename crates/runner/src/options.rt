@@ -1,6 +1,6 @@
 // The budget among the arguments.
 use crate::say;
-use wording::Reading;
+use wording::FromText;
 
 // What is asked for.
 pub enum Asked {
@@ -8,7 +8,7 @@ pub enum Asked {
     Wrong,
 }
 
-fn read() -> Reading {
+fn read() -> FromText {
     let mut text = [0u8; 64];
     let n = os::arg(4, &mut text);
     wording::number_of(&text[..n], 10, 1000000)
@@ -20,9 +20,9 @@ pub fn budget() -> Asked {
         return Asked::Of(1000000);
     }
     match read() {
-        Reading::Number(n) => Asked::Of(n),
-        Reading::Over => Asked::Of(1000001),
-        Reading::Wrong => {
+        FromText::Number(n) => Asked::Of(n),
+        FromText::Over => Asked::Of(1000001),
+        FromText::Wrong => {
             say::error(b"runner: the budget is not a number\n");
             Asked::Wrong
         }

@@ -1,3 +1,6 @@
 pub mod Choices
-pub mod Readings
+pub mod FromText
+pub mod Lined
+pub mod OneAnswer
+pub mod Signs
 pub mod Texts

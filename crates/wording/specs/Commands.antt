@@ -1,10 +1,11 @@
 -- The runner's commands, by their words and how many arguments there are, the program's own name among them.
 -- Assumes nothing.
 use Prim.Native.Nat.{ℕ}
-use mathlib.Core.Bool.{Bool, true, false}
+use mathlib.Core.Bool.{Bool, true, false, _&&_, _||_}
 use mathlib.Core.List.{List, [], _∷_}
 use lib.Dec.{eqb, ltb}
-use Rattle.word.specs.Choices.{choose}
+use Rattle.word.specs.Choices.{if_then_else_}
+use Rattle.wording.specs.Texts.{charactersOf}
 use Rattle.wording.specs.declared.commands.Command.{Command}
 use Rattle.wording.specs.declared.commands.Command.the-variants.{Run, Inspect, Help, Unknown, Miscounted}
 
@@ -13,24 +14,15 @@ unfoldable pub sameOf : List ℕ → List ℕ → Bool
 sameOf [] [] = true
 sameOf [] (y ∷ ys) = false
 sameOf (x ∷ xs) [] = false
-sameOf (x ∷ xs) (y ∷ ys) = choose (eqb x y) (sameOf xs ys) false
+sameOf (x ∷ xs) (y ∷ ys) = eqb x y && sameOf xs ys
 
 -- A command with `least` to `most` arguments.
 unfoldable pub countedOf : Command → ℕ → ℕ → ℕ → Command
-countedOf c count least most = choose (ltb count least) Miscounted (choose (ltb most count) Miscounted c)
-
-abbrev pub runWord : List ℕ
-runWord = 114 ∷ 117 ∷ 110 ∷ []
-
-abbrev pub inspectWord : List ℕ
-inspectWord = 105 ∷ 110 ∷ 115 ∷ 112 ∷ 101 ∷ 99 ∷ 116 ∷ []
-
-abbrev pub helpWord : List ℕ
-helpWord = 104 ∷ 101 ∷ 108 ∷ 112 ∷ []
+countedOf c count least most = if ltb count least || ltb most count then Miscounted else c
 
 -- run CORE SHEET [BUDGET [OUTPUT]], inspect CORE SHEET, help.
 unfoldable pub commandOf : List ℕ → ℕ → Command
 commandOf text count =
-    choose (sameOf text runWord) (countedOf Run count 4 6)
-    (choose (sameOf text inspectWord) (countedOf Inspect count 4 4)
-    (choose (sameOf text helpWord) Help Unknown))
+    if sameOf text (charactersOf "run") then countedOf Run count 4 6
+    else if sameOf text (charactersOf "inspect") then countedOf Inspect count 4 4
+    else if sameOf text (charactersOf "help") then Help else Unknown

@@ -1,7 +1,8 @@
 // The names of syllables, four letters each, by their operator numbers in the table of 4,096.
 ghost use mathlib.Core.Path.{_≡_};
 ghost use Prim.Native.Nat.{_≤_};
-ghost use Rattle.wording.specs.Names.{nameAt, nameOf};
+ghost use Rattle.wording.specs.Names.{nameOf};
+ghost use Rattle.wording.specs.ForCode.Lined.{nameAt};
 
 // The name of an operator number: a blank ends one of three letters, and four dashes stand for none.
 pub fn name_of(number: u8) -> [u8; 4]

@@ -1,12 +1,14 @@
 // Numbers from text, and words as signed numbers.
 ghost use mathlib.Core.Path.{_≡_};
 ghost use Prim.Native.Nat.{_<_};
-ghost use Rattle.word.specs.Numbers.{wholeOf};
-ghost use Rattle.wording.specs.Numbers.{readingOf, signedOf};
-ghost use Rattle.wording.specs.ForCode.Caps.{cappedOf, plainSigned};
+ghost use lib.IntN.{natAbs};
+ghost use Rattle.word.specs.Numbers.{signed, negative, wholeOf};
+ghost use Rattle.wording.specs.FromText.{fromTextOf};
+ghost use Rattle.wording.specs.Signs.{the, saysSigned, signedOf};
+ghost use Rattle.wording.specs.ForCode.Caps.{cappedOf};
 
 // What a text was read as.
-pub enum Reading {
+pub enum FromText {
     Number(u64),
     Over,
     Wrong,
@@ -20,11 +22,11 @@ pub enum Signed {
 }
 
 // The number that a text says, in digits to a base, if it is at most `most`; a digit's character is that of 0 plus the digit.
-pub fn number_of(text: &[u8], base: u8, most: u32) -> Reading
-    ensures { λ r. ⌜ r ≡ readingOf (now (text .entry)) base most ⌝ }
+pub fn number_of(text: &[u8], base: u8, most: u32) -> FromText
+    ensures { λ r. ⌜ r ≡ fromTextOf (now (text .entry)) base most ⌝ }
 {
     if text.len() == 0 {
-        return Reading::Wrong;
+        return FromText::Wrong;
     }
     let b = base as u64;
     let m = most as u64;
@@ -33,18 +35,18 @@ pub fn number_of(text: &[u8], base: u8, most: u32) -> Reading
     while i < text.len() {
         let c = wide(text[i]);
         if c < 48 {
-            return Reading::Wrong;
+            return FromText::Wrong;
         }
         if b <= c - 48 {
-            return Reading::Wrong;
+            return FromText::Wrong;
         }
         n = capped(n * b + (c - 48), m);
         i += 1;
     }
     if n <= m {
-        return Reading::Number(n);
+        return FromText::Number(n);
     }
-    Reading::Over
+    FromText::Over
 }
 
 fn wide(b: u8) -> u64
@@ -66,7 +68,7 @@ fn capped(n: u64, most: u64) -> u64
 
 // The signed whole number of a word.
 pub fn signed_of(w: u64) -> Signed
-    ensures { λ r. ⌜ r ≡ signedOf (wholeOf w) ⌝ }
+    ensures { λ r. ⌜ saysSigned r ≡ signedOf (wholeOf w) ⌝ }
 {
     if word::exponent(w) == 0 {
         return by_sign(word::sign(w), word::magnitude(w));
@@ -75,7 +77,7 @@ pub fn signed_of(w: u64) -> Signed
 }
 
 fn by_sign(minus: bool, m: u64) -> Signed
-    ensures { λ r. ⌜ r ≡ plainSigned minus m ⌝ }
+    ensures { λ r. ⌜ saysSigned r ≡ the (negative (signed minus m), natAbs (signed minus m)) ⌝ }
 {
     if minus {
         if 0 < m {

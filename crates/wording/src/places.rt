@@ -2,10 +2,10 @@
 ghost use mathlib.Core.Path.{_≡_};
 ghost use lib.ListN.{getD};
 ghost use Prim.Native.Nat.{_<_};
-ghost use Rattle.wording.specs.Places.{spotOf, recordKindOf};
+ghost use Rattle.wording.specs.Places.{codePlaceOf, recordKindOf};
 
 // A syllable of the code: the address of its word, and its place there, 0 being leftmost.
-pub struct Spot {
+pub struct CodePlace {
     pub word: u64,
     pub syllable: u64,
 }
@@ -21,11 +21,11 @@ fn byte(sheet: &[u8], at: usize) -> u64
 }
 
 // The syllable that a sheet's place names, counted from 0 from the first code word on.
-pub fn place_of(sheet: &[u8], place: u64) -> Spot
-    ensures { λ r. ⌜ r ≡ spotOf (now (sheet .entry)) place ⌝ }
+pub fn place_of(sheet: &[u8], place: u64) -> CodePlace
+    ensures { λ r. ⌜ r ≡ codePlaceOf (now (sheet .entry)) place ⌝ }
 {
     let first = 256 * byte(sheet, 2) + byte(sheet, 3);
-    Spot {
+    CodePlace {
         word: first + place / 4,
         syllable: place % 4,
     }

@@ -1,4 +1,4 @@
-use Rattle.wording.proofs.Choices.{name-listed, name-none}
+use Rattle.wording.proofs.Lined.{name-listed, name-none}
 use borrow.Author.Needs.{needs}
 use Rattle.wording.proofs.names.name_of.Statement.{statement}
 use Rattle.wording.proofs.names.name_of.Tie as tie

@@ -1,4 +1,4 @@
-use Rattle.wording.proofs.Readings.{signed-minus, signed-zero, signed-plus}
+use Rattle.wording.proofs.Signs.{signed-minus, signed-zero, signed-plus}
 use Rattle.wording.proofs.numbers.by_sign.Statement.{statement}
 use Rattle.wording.proofs.numbers.by_sign.Tie as tie
 use Rattle.wording.proofs.numbers.by_sign.Reads as reads

@@ -1,4 +1,4 @@
-use Rattle.wording.proofs.Readings.{capped-in, capped-past}
+use Rattle.wording.proofs.FromText.{capped-in, capped-past}
 use borrow.Author.Needs.{needs}
 use Rattle.wording.proofs.numbers.capped.Statement.{statement}
 use Rattle.wording.proofs.numbers.capped.Tie as tie

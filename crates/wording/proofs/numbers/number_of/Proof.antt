@@ -1,7 +1,8 @@
 use Prim.Native.Nat.{_+_, _-_, _≤_}
 use lib.ListN.{length, drop}
-use Rattle.wording.specs.Numbers.{readingOf, readFrom}
-use Rattle.wording.proofs.Readings.{read-none, read-start, read-low, read-high, read-more, read-in, read-over, product, capped-small}
+use Rattle.wording.specs.FromText.{fromTextOf}
+use Rattle.wording.specs.ForCode.Caps.{readFrom}
+use Rattle.wording.proofs.FromText.{read-none, read-start, read-low, read-high, read-more, read-in, read-over, product, capped-small}
 use mathlib.Core.Path.{_≡_}
 use native.Mathlib.Omega.{arith}
 use borrow.Author.Needs.{needs}
@@ -13,7 +14,7 @@ use Rattle.wording.proofs.numbers.capped.Reads as capped-reads
 use Rattle.wording.proofs.numbers.wide.Reads as wide-reads
 
 abbrev Inv-loop : tie.InvT-loop
-Inv-loop text base most b m n₀ i₀ n i = (i ≤ length text) × (n ≤ most + 1) × (readingOf text base most ≡ readFrom base most n (drop i text))
+Inv-loop text base most b m n₀ i₀ n i = (i ≤ length text) × (n ≤ most + 1) × (fromTextOf text base most ≡ readFrom base most n (drop i text))
 
 abbrev μ-loop : tie.MeasureT-loop
 μ-loop text base most b m n₀ i₀ n i = length text - i

@@ -1,4 +1,4 @@
-use Rattle.wording.proofs.Readings.{signed-whole, signed-none}
+use Rattle.wording.proofs.Signs.{signed-whole, signed-none}
 use borrow.Author.Needs.{needs}
 use Rattle.wording.proofs.numbers.signed_of.Statement.{statement}
 use Rattle.wording.proofs.numbers.signed_of.Tie as tie

@@ -1,4 +1,4 @@
-use Rattle.wording.proofs.Choices.{spot-at}
+use Rattle.wording.proofs.Choices.{code-place}
 use borrow.Author.Needs.{needs}
 use Rattle.wording.proofs.places.place_of.Statement.{statement}
 use Rattle.wording.proofs.places.place_of.Tie as tie
@@ -28,7 +28,7 @@ add-t6 c = search needs
 
 -- src/places.rt:24:1
 returns : tie.Need-returns
-returns c = spot-at _ _ (c .before .byte .ensures .0) (c .byte2 .ensures .0)
+returns c = code-place _ _ (c .before .byte .ensures .0) (c .byte2 .ensures .0)
 
 pub place-of-spec : {M : Type 1} → statement M
 place-of-spec =
