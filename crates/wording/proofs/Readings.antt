@@ -12,6 +12,7 @@ use lib.ListN.{length, getD, drop, drop-of-length-le}
 use lib.Seq.{drop-cons}
 use Rattle.word.specs.Layout.{signOf, exponentOf, magnitudeOf}
 use Rattle.word.specs.Numbers.{signed, valueOf, wholeOf}
+use Rattle.word.specs.Choices.{if_then_else_}
 use Rattle.wording.specs.declared.numbers.Reading.the-variants.{Number, Over, Wrong}
 use Rattle.wording.specs.declared.numbers.Signed.{Signed}
 use Rattle.wording.specs.declared.numbers.Signed.the-variants.{Plus, Minus, NotWhole}
@@ -118,9 +119,9 @@ pub signed-plus : (b : Bool) (m : ℕ) → b ≡ false → Plus m ≡ plainSigne
 signed-plus b m e = rw e
 
 pub signed-whole : (w : ℕ) {x m : ℕ} {b : Bool} {r : Signed} → x ≡ exponentOf w → x ≡ 0 → b ≡ signOf w → m ≡ magnitudeOf w → r ≡ plainSigned b m → r ≡ signedOf (wholeOf w)
-unfolding wholeOf valueOf
+unfolding wholeOf valueOf if_then_else_
 signed-whole w x z b m e = e ∙ rw (eq-eqb (exponentOf w) 0 (sym x ∙ z), b, m) (by-sign (signOf w) (magnitudeOf w))
 
 pub signed-none : (w : ℕ) {x : ℕ} → x ≡ exponentOf w → (x ≡ 0 → ⊥) → NotWhole ≡ signedOf (wholeOf w)
-unfolding wholeOf
+unfolding wholeOf if_then_else_
 signed-none w x h = rw (ne-eqb (exponentOf w) 0 (λ z. h (x ∙ z)))

@@ -6,8 +6,7 @@ use mathlib.Core.List.{List, [], _∷_}
 use lib.Dec.{leb, ltb}
 use lib.IntN.{ℤ, pos, negsuc}
 use Rattle.word.specs.Choices.{choose}
-use Rattle.word.specs.declared.number.Whole.{Whole}
-use Rattle.word.specs.declared.number.Whole.the-variants.{Number as Known, NotWhole as Unknown}
+use Rattle.word.specs.Answers.{OrNumber, the, givenBack}
 use Rattle.wording.specs.declared.numbers.Reading.{Reading}
 use Rattle.wording.specs.declared.numbers.Reading.the-variants.{Number, Over, Wrong}
 use Rattle.wording.specs.declared.numbers.Signed.{Signed}
@@ -46,6 +45,6 @@ abbrev pub signedInt : ℤ → Signed
 signedInt (pos n) = Plus n
 signedInt (negsuc n) = Minus (suc n)
 
-abbrev pub signedOf : Whole → Signed
-signedOf (Known z) = signedInt z
-signedOf Unknown = NotWhole
+abbrev pub signedOf : OrNumber ℤ → Signed
+signedOf (the z) = signedInt z
+signedOf (givenBack n) = NotWhole
