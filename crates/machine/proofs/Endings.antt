@@ -89,11 +89,11 @@ pub by-syllable : {core core′ : List ℕ} {r : Done} (here k : ℕ) (st : Stat
 by-syllable here k st e d = rw e d
 
 pub by-operator : {core core′ : List ℕ} {r : Done} (here n k : ℕ) (st : State) → (n ≡ 37 → ⊥) → (n ≡ 38 → ⊥) → (n ≡ 39 → ⊥) → Ends core core′ r (operateOf here (operatorNumbered n k) st) → Ends core core′ r (performOf here (syllableNumbered n k) st)
-unfolding performOf if_then_else_
+unfolding performOf
 by-operator here n k st a b c d = rw (ne-eqb n 37 a, ne-eqb n 38 b, ne-eqb n 39 c) d
 
 pub by-call : {core core′ : List ℕ} {r : Done} (here n k : ℕ) (st : State) → (eqb n 38 || eqb n 39) ≡ true → Ends core core′ r (plain (callKOf (eqb n 39) here st k)) → Ends core core′ r (performOf here (syllableNumbered n k) st)
-unfolding performOf if_then_else_
+unfolding performOf
 by-call {core} {core′} {r} here n k st h d = go (eqb n 38) (eqb n 39) refl refl h
   where
     go : (x y : Bool) → eqb n 38 ≡ x → eqb n 39 ≡ y → (x || y) ≡ true → Ends core core′ r (performOf here (syllableNumbered n k) st)

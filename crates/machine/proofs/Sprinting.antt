@@ -230,7 +230,7 @@ pub as-number : {core core′ : List ℕ} {g : Registers} {r : Hurry} (here k : 
 as-number here k st e d = rw e d
 
 pub as-operator : (here n k : ℕ) (st : State) → n ≤ 11 → operateOf here (operatorNumbered n k) st ≡ performOf here (syllableNumbered n k) st
-unfolding performOf if_then_else_
+unfolding performOf
 as-operator here n k st h = rw (ne-eqb n 37 (λ e. omega arith), ne-eqb n 38 (λ e. omega arith), ne-eqb n 39 (λ e. omega arith))
 
 pub as-store : (here n k : ℕ) (st : State) → (eqb n 27 || eqb n 28) ≡ true → plain (if eqb n 28 then sndOf here st else stdOf here st) ≡ performOf here (syllableNumbered n k) st
@@ -243,7 +243,7 @@ as-store here n k st h = go (eqb n 27) (eqb n 28) refl refl h
     go false false _ _ z = absurd (false≢true z)
 
 pub as-turn : (here n k : ℕ) (st : State) → (eqb n 32 || eqb n 33) ≡ true → plain (ifOffOf (eqb n 33) st) ≡ performOf here (syllableNumbered n k) st
-unfolding performOf operateOf if_then_else_
+unfolding performOf operateOf
 as-turn here n k st h = go (eqb n 32) (eqb n 33) refl refl h
   where
     go : (x y : Bool) → eqb n 32 ≡ x → eqb n 33 ≡ y → (x || y) ≡ true → plain (ifOffOf (eqb n 33) st) ≡ performOf here (syllableNumbered n k) st

@@ -11,14 +11,11 @@ use Rattle.syllable.specs.Decoding.{sortOf, operatorIn, decodeAs, decode
 use Rattle.syllable.specs.Numbers.{indexIn, numberAs, operatorNumber}
 use Rattle.syllable.proofs.Finding.{Found, here, nowhere, found}
 use Rattle.syllable.specs.ForCode.Numbered.{operatorNumbered, syllableNumbered}
-use Rattle.word.specs.Choices.{if_then_else_}
 
 pub operator-number : (n k : ℕ) → (n ≡ 37 → ⊥) → (n ≡ 38 → ⊥) → (n ≡ 39 → ⊥) → Operates (operatorNumbered n k) ≡ syllableNumbered n k
-unfolding if_then_else_
 operator-number n k a b c = simp (ne-eqb n 37 a, ne-eqb n 38 b, ne-eqb n 39 c)
 
 by-place : (y p : ℕ) (r : Operator) → Found 1 listed y p r → Operates r ≡ syllableNumbered p (y / 4)
-unfolding if_then_else_
 by-place y p r (here i m c l e f) =
     ap Operates (f ∙ ap (λ (n : ℕ). operatorNumbered n (y / 4)) at-p)
     ∙ operator-number p (y / 4) (λ h. omega arith) (λ h. omega arith) (λ h. omega arith)
@@ -28,7 +25,6 @@ by-place y p r (here i m c l e f) =
 by-place y p r (nowhere none e f) = ap Operates f ∙ ap (λ (n : ℕ). syllableNumbered n (y / 4)) (sym e)
 
 by-kind : (y r : ℕ) → decodeAs (sortOf r) y ≡ syllableNumbered (numberAs (sortOf r) y) (y / 4)
-unfolding if_then_else_
 by-kind y zero = refl
 by-kind y (suc zero) = by-place y (indexIn 1 listed y) (operatorIn listed y) (found 1 listed y)
 by-kind y (suc (suc zero)) = refl

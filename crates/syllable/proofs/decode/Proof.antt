@@ -2,7 +2,6 @@
 -- Assumes nothing.
 use Rattle.syllable.proofs.Numbered.{read-by, read-operator}
 use borrow.Author.Needs.{needs}
-use Rattle.word.specs.Choices.{if_then_else_}
 use Rattle.syllable.proofs.decode.Statement.{statement}
 use Rattle.syllable.proofs.decode.Tie as tie
 
@@ -13,15 +12,12 @@ operator-at-requires : tie.Need-operator-at-requires
 operator-at-requires c κs = search needs
 
 returns : tie.Need-returns
-unfolding if_then_else_
 returns c = read-by _ (c .before .number .ensures) (c .match .keys1)
 
 returns-2 : tie.Need-returns-2
-unfolding if_then_else_
 returns-2 c = read-by _ (c .before .number .ensures) (c .match .keys2)
 
 returns-3 : tie.Need-returns-3
-unfolding if_then_else_
 returns-3 c = read-by _ (c .before .number .ensures) (c .match .keys3)
 
 returns-4 : tie.Need-returns-4

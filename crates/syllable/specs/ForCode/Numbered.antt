@@ -8,7 +8,7 @@ use Rattle.syllable.specs.declared.Operator.the-variants.{NotBuilt}
 use Rattle.syllable.specs.declared.Syllable.{Syllable}
 use Rattle.syllable.specs.declared.Syllable.the-variants.{Litc, Opdc, Desc, Operator as Operates}
 use Rattle.syllable.specs.Codes.{listed}
-use Rattle.word.specs.Choices.{if_then_else_}
+use Rattle.word.specs.Choices.{choose}
 
 -- the operator at a place, counted from 0; past the end, one that is not built
 abbrev pub operatorFrom : List Operator → ℕ → ℕ → Operator
@@ -24,4 +24,4 @@ operatorNumbered (suc n) k = operatorFrom listed n k
 -- the syllable with an operator number and a number k
 abbrev pub syllableNumbered : ℕ → ℕ → Syllable
 syllableNumbered n k =
-    if eqb n 37 then Litc k else if eqb n 38 then Opdc k else if eqb n 39 then Desc k else Operates (operatorNumbered n k)
+    choose (eqb n 37) (Litc k) (choose (eqb n 38) (Opdc k) (choose (eqb n 39) (Desc k) (Operates (operatorNumbered n k))))

@@ -1,5 +1,4 @@
 use Rattle.machine.specs.Steps.{performOf}
-use Rattle.word.specs.Choices.{if_then_else_}
 use Rattle.machine.proofs.Sprinting.{hurries-as, hurries-reads, as-number, as-operator, as-store, as-turn}
 use borrow.Author.Needs.{needs}
 use Rattle.machine.proofs.quick.hurry.Statement.{statement}
@@ -18,7 +17,7 @@ filled-requires c κs = search needs
 
 -- src/quick.rt:177:9
 returns : tie.Need-returns
-unfolding performOf if_then_else_
+unfolding performOf
 returns c = as-number _ _ _ (c .before .if1 .taken) (hurries-reads (c .filled .result) (c .filled .ensures _ _))
 
 -- src/quick.rt:180:9
@@ -31,7 +30,7 @@ same-length c = search needs
 
 -- src/quick.rt:180:9
 returns-2 : tie.Need-returns-2
-unfolding performOf if_then_else_
+unfolding performOf
 returns-2 c = as-number _ _ _ (c .before .before .if2 .taken) (hurries-reads (c .operand .result) (c .operand .ensures))
 
 -- src/quick.rt:183:9

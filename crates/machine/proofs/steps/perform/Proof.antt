@@ -2,7 +2,6 @@ use mathlib.Core.Path.{refl}
 use borrow.Author.Tests.{eqb-false}
 use lib.Dec.{eqb}
 use Rattle.machine.specs.Steps.{operateOf, performOf}
-use Rattle.word.specs.Choices.{if_then_else_}
 use Rattle.machine.proofs.Endings.{plains, ends-reads, by-syllable, by-operator, by-call, neither-first, neither-second}
 use borrow.Author.Needs.{needs}
 use Rattle.machine.proofs.steps.perform.Statement.{statement}
@@ -45,12 +44,12 @@ same-length-2 c = search needs
 
 -- src/steps.rt:174:9
 returns-2 : tie.Need-returns-2
-unfolding performOf if_then_else_
+unfolding performOf
 returns-2 c = by-syllable _ _ _ (c .before .before .before .before .before .if2 .taken) (plains (c .plain2 .ensures) (c .before .before .before .litc .ensures))
 
 -- src/steps.rt:177:9
 returns-3 : tie.Need-returns-3
-unfolding performOf operateOf if_then_else_
+unfolding performOf operateOf
 returns-3 c = by-syllable _ _ _ (c .if3 .taken) (record { same = refl; kept = refl })
 
 -- src/steps.rt:180:9
