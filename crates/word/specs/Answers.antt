@@ -23,7 +23,7 @@ abbrev pub saysMade : Made → OrNumber ℕ
 saysMade (Word w) = the w
 saysMade PastWhole = givenBack 20
 
--- Digits that say no word are no file, so the paper has no number for them: a word or none.
+-- A word, or none: the paper has no number for digits that say no word.
 abbrev pub saysReading : Reading → Option ℕ
 saysReading (Read n) = some n
 saysReading Refused = none
