@@ -38,8 +38,8 @@ load-many {bytes} {old} {total} h m =
     either false = refl
 
 -- The lent words are as many as the file has.
-pub lent : {total : ℕ} (core : List ℕ) → length core ≡ 4096 → total / 6 ≤ 4096 → length (take (total / 6) core) ≡ total / 6
-lent {total} core l m = length-take-le (total / 6) core (omega arith)
+pub lent : {n : ℕ} (core : List ℕ) → length core ≡ 4096 → n ≤ 4096 → length (take n core) ≡ n
+lent {n} core l m = length-take-le n core (omega arith)
 
 -- What a 0 leaves of the lent words.
 read-words : {bytes old new : List ℕ} {n r : ℕ} → length old ≡ n → FileRead bytes old new r → r ≡ 0 → new ≡ wordsOf n bytes
