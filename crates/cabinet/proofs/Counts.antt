@@ -1,7 +1,7 @@
 -- What a 0 of the length checks says, and what a load then leaves.
-use Prim.Native.Nat.{ℕ, suc, _%_, _<_, _≤_}
+use Prim.Native.Nat.{ℕ, suc, _/_, _%_, _<_, _≤_}
 use mathlib.Core.Path.{_≡_, refl, sym, _∙_, ap}
-use mathlib.Core.Bool.{Bool, true, false}
+use mathlib.Core.Bool.{Bool, true, false, _&&_}
 use mathlib.Core.List.{List, _++_, append-nil}
 use native.Mathlib.Omega.{arith}
 use borrow.Author.Tests.{eq-eqb, ne-eqb, ltb-true, leb-true, eqb-true}
@@ -24,8 +24,12 @@ pub core-whole : (n : ℕ) → coreNumberOf n ≡ 0 → Whole n
 unfolding coreNumberOf if_then_else_
 core-whole n e = by _ _ _ refl refl refl e
   where
-    by : (a b c : Bool) → eqb (n % 6) 0 ≡ a → ltb 0 n ≡ b → leb n 196608 ≡ c → _≡_ {A = ℕ} (if a then (if b then (if c then 0 else 1) else 1) else 4) 0 → Whole n
-    by true true true p q r e = record { six = eqb-true (n % 6) 0 p; some = ltb-true 0 n q; most = leb-true n 196608 r }
+    by : (a b c : Bool) → eqb (n % 6) 0 ≡ a → ltb 0 (n / 6) ≡ b → leb (n / 6) 32768 ≡ c → _≡_ {A = ℕ} (if a then (if b && c then 0 else 1) else 4) 0 → Whole n
+    by true true true p q r e =
+        let z : n % 6 ≡ 0 = eqb-true (n % 6) 0 p in
+        let l : 0 < n / 6 = ltb-true 0 (n / 6) q in
+        let u : n / 6 ≤ 32768 = leb-true (n / 6) 32768 r in
+        record { six = z; some = omega arith; most = omega arith }
     by true true false p q r e = no 0 e
     by true false c p q r e = no 0 e
     by false b c p q r e = no 3 e

@@ -7,8 +7,9 @@ pub fn core_number(n: usize) -> u64
     ensures { λ r. ⌜ r ≡ coreNumberOf n ⌝ }
 {
     if n % 6 == 0 {
-        if 0 < n {
-            if n <= 196608 {
+        let words = n / 6;
+        if 0 < words {
+            if words <= 32768 {
                 return 0;
             }
         }

@@ -16,7 +16,7 @@ use Rattle.machine.specs.Calls.{withinOf, indexOf, indexedOf, loadOf, dataCallO
 use Rattle.word.specs.Field.{withField, bit}
 use Rattle.word.specs.Layout.{flagOf, presenceOf, sizeOf, addressOf, dataOf}
 use Rattle.word.specs.Addresses.{sumOf}
-use Rattle.word.specs.Kinds.{kindOf, kindBy}
+use Rattle.word.specs.Kinds.{kindOf}
 use Rattle.word.specs.declared.kinds.Kind.{Kind}
 use Rattle.word.specs.declared.kinds.Kind.the-variants.{Operand, Data}
 use Rattle.word.proofs.Makings.{data-back}
@@ -42,12 +42,12 @@ called true = place
 called false = number
 
 operand-kind : (w : ℕ) → flagOf w ≡ false → kindOf w ≡ Operand
-unfolding kindOf
-operand-kind w e = ap (λ (b : Bool). kindBy b (bit w 1) (bit w 3)) e
+unfolding kindOf if_then_else_
+operand-kind w e = rw e
 
 data-kind : (w : ℕ) → flagOf w ≡ true → bit w 1 ≡ false → kindOf w ≡ Data
-unfolding kindOf
-data-kind w e f = ap (λ (b : Bool). kindBy b (bit w 1) (bit w 3)) e ∙ ap (λ (b : Bool). kindBy true b (bit w 3)) f
+unfolding kindOf if_then_else_
+data-kind w e f = rw (e, f)
 
 within-safe : (z : ℤ) (size : ℕ) → Safe (λ (n : ℕ). n < size) (withinOf z size)
 unfolding withinOf

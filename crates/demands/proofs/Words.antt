@@ -9,11 +9,11 @@ use lib.Dec.{eqb, ltb}
 use lib.IntN.{ℤ, natAbs}
 use Rattle.word.specs.Field.{field, bit, placed, withField, oneOf}
 use Rattle.word.specs.Layout.{flagOf, presenceOf, sizeOf, addressOf}
-use Rattle.word.specs.Numbers.{operandOf, madeBy, negative, wholeOf}
-use Rattle.word.specs.declared.number.Whole.{Whole}
-use Rattle.word.specs.declared.number.Whole.the-variants.{Number, NotWhole}
+use Rattle.word.specs.Numbers.{operandOf, negative, wholeOf}
+use Rattle.word.specs.Answers.{OrNumber, the, givenBack}
+use Rattle.word.specs.Choices.{if_then_else_}
 use Rattle.word.proofs.Makings.{one-lt, bit-is}
-use Rattle.machine.specs.Arithmetics.{wholeAs, takenOf, madeAs, givenOf, dividedOf, reckonOf, relateOf, holds}
+use Rattle.machine.specs.Arithmetics.{orUnwhole, takenOf, givenOf, dividedOf, reckonOf, relateOf, holds}
 use Rattle.syllable.specs.declared.Arithmetic.{Arithmetic}
 use Rattle.syllable.specs.declared.Arithmetic.the-variants.{Add, Sub, Mul, Idv, Rdv}
 use Rattle.syllable.specs.declared.Relation.{Relation}
@@ -68,15 +68,16 @@ value-off v (points q) = absurd (false≢true v)
 
 -- ---- arithmetic stops only for 20 or 21
 
-whole-safe : (w : Whole) → Safe (λ (z : ℤ). Unit {0}) (wholeAs w)
-whole-safe (Number z) = goes tt
-whole-safe NotWhole = stops tt
+whole-safe : (w : OrNumber ℤ) → Safe (λ (z : ℤ). Unit {0}) (orUnwhole w)
+whole-safe (the z) = goes tt
+whole-safe (givenBack n) = stops tt
 
 pub taken-safe : (w : ℕ) → Safe (λ (z : ℤ). Unit {0}) (takenOf w)
 unfolding takenOf
 taken-safe w = whole-safe (wholeOf w)
 
-made-safe : (b : Bool) (w : ℕ) → Off w → Safe Off (madeAs (madeBy b w))
+made-safe : (b : Bool) (w : ℕ) → Off w → Safe Off (orUnwhole (if b then the w else givenBack 20))
+unfolding if_then_else_
 made-safe true w h = goes h
 made-safe false w h = stops tt
 

@@ -4,12 +4,14 @@ use mathlib.Core.Bool.{Bool, true, false}
 use native.Mathlib.Omega.{arith}
 use lib.Dec.{eqb, ltb}
 use lib.IntN.{ℤ, natAbs}
-use Rattle.machine.specs.Arithmetics.{madeAs, givenOf, dividedOf, reckonOf, relateOf, holds}
+use Rattle.machine.specs.Arithmetics.{orUnwhole, givenOf, dividedOf, reckonOf, relateOf, holds}
 use Rattle.machine.proofs.Sizes.{Gives, goes, stops, gives-if}
 use Rattle.laws.specs.Fit.{Word}
 use Rattle.word.specs.Field.{placed, withField, oneOf}
 use Rattle.word.specs.Layout.{dataOf, mscwOf, rcwOf}
-use Rattle.word.specs.Numbers.{operandOf, madeBy, negative}
+use Rattle.word.specs.Numbers.{operandOf, negative}
+use Rattle.word.specs.Choices.{if_then_else_}
+use Rattle.word.specs.Answers.{the, givenBack}
 use Rattle.word.proofs.Makings.{one-lt}
 use Rattle.syllable.specs.declared.Arithmetic.{Arithmetic}
 use Rattle.syllable.specs.declared.Arithmetic.the-variants.{Add, Sub, Mul, Idv, Rdv}
@@ -44,7 +46,8 @@ rcw-word d l f c = omega (arith, one-lt d)
 pub one-word : (b : Bool) → Word (oneOf b)
 one-word b = omega (arith, one-lt b)
 
-made-word : (b : Bool) (w : ℕ) → Word w → Gives Word (madeAs (madeBy b w))
+made-word : (b : Bool) (w : ℕ) → Word w → Gives Word (orUnwhole (if b then the w else givenBack 20))
+unfolding if_then_else_
 made-word true w h = goes h
 made-word false w h = stops
 

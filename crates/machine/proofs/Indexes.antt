@@ -11,14 +11,15 @@ use mir.Syntax.{w64}
 use mir.Val.{Fits, ofZ, toZ}
 use Rattle.machine.specs.declared.outcome.Cause.the-variants.{Index, Unwhole}
 use Rattle.machine.specs.Outcomes.{Res, on, halt}
-use Rattle.machine.specs.Arithmetics.{wholeAs, takenOf}
+use Rattle.machine.specs.Arithmetics.{orUnwhole, takenOf}
 use Rattle.machine.specs.Calls.{withinOf, indexOf}
 use Rattle.machine.proofs.Calculus.{isYes, isNo, isGiven, isCut}
 use Rattle.machine.proofs.Sizes.{Gives, goes, stops, gives-if, gives-bind, given, any}
-use Rattle.word.specs.Numbers.{valueOf, wholeBy, wholeOf}
+use Rattle.word.specs.Numbers.{valueOf, wholeOf}
 use Rattle.word.specs.Layout.{exponentOf, addressOf}
 use Rattle.word.specs.Field.{withField}
 use Rattle.word.specs.Addresses.{sumOf}
+use Rattle.word.specs.Answers.{the, givenBack, saysWhole}
 use Rattle.word.specs.declared.number.Whole.{Whole}
 use Rattle.word.specs.declared.number.Whole.the-variants.{Number, NotWhole}
 use Rattle.word.proofs.Operands.{value-small}
@@ -39,12 +40,12 @@ within-past : (z : ℤ) (n size : ℕ) → z ≡ pos n → size ≤ n → halt I
 unfolding withinOf
 within-past z n size e h = rw e (isNo _ _ (le-ltb n size h) refl)
 
-module _ (w : ℕ) (z : ℤ) {r : Whole} (does : r ≡ wholeOf w) (told : r ≡ Number z) where
+module _ (w : ℕ) (z : ℤ) {r : Whole} (does : saysWhole r ≡ wholeOf w) (told : r ≡ Number z) where
   small : natAbs z < 2 ^ 63
-  unfolding wholeOf
-  small = go (eqb (exponentOf w) 0) (sym does ∙ told)
+  unfolding wholeOf if_then_else_
+  small = go (eqb (exponentOf w) 0) (sym does ∙ ap saysWhole told)
     where
-      go : (b : Bool) → wholeBy b (valueOf w) ≡ Number z → natAbs z < 2 ^ 63
+      go : (b : Bool) → (if b then the (valueOf w) else givenBack 20) ≡ the z → natAbs z < 2 ^ 63
       go true e =
           let v : valueOf w ≡ z = cc in
           omega (arith, value-small w, ap natAbs v)
@@ -62,7 +63,7 @@ module _ (w : ℕ) (z : ℤ) {r : Whole} (does : r ≡ wholeOf w) (told : r ≡ 
 
   taken : takenOf w ≡ on z
   unfolding takenOf
-  taken = ap wholeAs (sym does ∙ told)
+  taken = ap orUnwhole (sym does ∙ ap saysWhole told)
 
   module _ (size : ℕ) where
     within : {o : Res ℕ} → o ≡ withinOf z size → o ≡ indexOf w size
@@ -79,9 +80,9 @@ module _ (w : ℕ) (z : ℤ) {r : Whole} (does : r ≡ wholeOf w) (told : r ≡ 
     index-past t h = within (within-past z (natAbs z) size (at-pos t) (rw read at h))
 
 -- "exponent not 0: 20"
-pub index-unwhole : (w size : ℕ) {r : Whole} → r ≡ wholeOf w → r ≡ NotWhole → halt Unwhole ≡ indexOf w size
+pub index-unwhole : (w size : ℕ) {r : Whole} → saysWhole r ≡ wholeOf w → r ≡ NotWhole → halt Unwhole ≡ indexOf w size
 unfolding indexOf takenOf
-index-unwhole w size e h = isCut _ (ap wholeAs (sym e ∙ h))
+index-unwhole w size e h = isCut _ (ap orUnwhole (sym e ∙ ap saysWhole h))
 
 within-gives : (z : ℤ) (size : ℕ) → Gives (λ (n : ℕ). n < size) (withinOf z size)
 unfolding withinOf

@@ -10,31 +10,25 @@ use Rattle.machine.specs.States.{State, emptyA, fillB}
 use Rattle.machine.specs.Stack.{bothFullOf}
 use Rattle.word.specs.Field.{oneOf}
 use Rattle.word.specs.Numbers.{wholeOf, operandOf}
-use Rattle.word.specs.declared.number.Whole.{Whole}
-use Rattle.word.specs.declared.number.Whole.the-variants.{Number, NotWhole}
-use Rattle.word.specs.declared.number.Made.{Made}
-use Rattle.word.specs.declared.number.Made.the-variants.{Word, PastWhole}
+use Rattle.word.specs.Answers.{OrNumber, the, givenBack}
 use Rattle.syllable.specs.declared.Arithmetic.{Arithmetic}
 use Rattle.syllable.specs.declared.Arithmetic.the-variants.{Add, Sub, Mul, Idv, Rdv}
 use Rattle.syllable.specs.declared.Relation.{Relation}
 use Rattle.syllable.specs.declared.Relation.the-variants.{Gtr, Geq, Eql, Leq, Lss, Neq}
 use Rattle.word.specs.Choices.{if_then_else_}
 
--- "An exponent not 0: 20"
-abbrev pub wholeAs : Whole → Res ℤ
-wholeAs (Number z) = on z
-wholeAs NotWhole = halt Unwhole
+-- The one number that these two give back is 20.
+abbrev pub orUnwhole : {A : Type 0} → OrNumber A → Res A
+orUnwhole (the x) = on x
+orUnwhole (givenBack n) = halt Unwhole
 
+-- "An exponent not 0: 20"
 unfoldable pub takenOf : ℕ → Res ℤ
-takenOf w = wholeAs (wholeOf w)
+takenOf w = orUnwhole (wholeOf w)
 
 -- "result past 39 bits: 20"
-abbrev pub madeAs : Made → Res ℕ
-madeAs (Word w) = on w
-madeAs PastWhole = halt Unwhole
-
 unfoldable pub givenOf : ℤ → Res ℕ
-givenOf z = madeAs (operandOf z)
+givenOf z = orUnwhole (operandOf z)
 
 -- "A zero in IDV, RDV: 21"
 unfoldable pub dividedOf : ℤ → ℤ → Res ℕ

@@ -6,3 +6,4 @@ pub mod Numbered
 pub mod Operators
 pub mod RoundTrip
 pub mod Whole
+pub mod OneAnswer

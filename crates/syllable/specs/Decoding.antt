@@ -26,7 +26,7 @@ abbrev pub operatorIn : List Operator → ℕ → Operator
 operatorIn [] y = NotBuilt (y / 4)
 operatorIn (o ∷ os) y = elim (eqb (operatorCode o) y) [ true ↦ o | false ↦ operatorIn os y ]
 
--- "the first ten bits are its number k"
+-- "the first ten bits are its number k"; the cases of the enum are the paper's own four
 abbrev pub decodeAs : Sort → ℕ → Syllable
 decodeAs literal y = Litc (y / 4)
 decodeAs operandCall y = Opdc (y / 4)

@@ -10,6 +10,7 @@ use lib.ListN.{length, take, drop, getD, set, length-append}
 use lib.Seq.{sets-eq, length-take-le, take-suc, take-at, take-all}
 use Rattle.word.specs.Digits.{digits}
 use Rattle.word.proofs.Places.{digits-length}
+use Rattle.word.specs.Choices.{if_then_else_}
 use Rattle.tape.specs.Files.{bytesOf, writeNumberOf, writeFileOf}
 
 pub six-stored : (room : List ℕ) (at w : ℕ) → at + 6 ≤ length room
@@ -61,9 +62,9 @@ spread-end core room i h k l e =
 -- ---- a core is written, or nothing is
 
 pub write-yes : (core room : List ℕ) {new : List ℕ} → writeNumberOf core (length room) ≡ 0 → new ≡ bytesOf core → new ≡ writeFileOf core room
-unfolding writeFileOf
+unfolding writeFileOf if_then_else_
 write-yes core room z e = rw (eq-eqb (writeNumberOf core (length room)) 0 z) e
 
 pub write-no : (core room : List ℕ) → (writeNumberOf core (length room) ≡ 0 → ⊥) → room ≡ writeFileOf core room
-unfolding writeFileOf
+unfolding writeFileOf if_then_else_
 write-no core room n = rw (ne-eqb (writeNumberOf core (length room)) 0 n)

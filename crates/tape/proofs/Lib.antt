@@ -4,3 +4,4 @@ pub mod Bytes
 pub mod Backs
 pub mod RoundTrip
 pub mod Examples
+pub mod OneAnswer

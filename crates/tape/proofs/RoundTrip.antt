@@ -1,4 +1,4 @@
--- A file read and written is the same file; a core written and read is the same core; an answer is the only one.
+-- A file read and written is the same file; a core written and read is the same core.
 use Prim.Native.Nat.{ℕ, _*_, _<_, _≤_}
 use mathlib.Core.Path.{_≡_, refl, sym, _∙_}
 use mathlib.Core.Bool.{true}
@@ -7,7 +7,6 @@ use native.Mathlib.Omega.{arith}
 use lib.ListN.{length}
 use Rattle.word.specs.Core.{lengthFits, wordsFit}
 use Rattle.word.specs.Digits.{below}
-use Rattle.word.proofs.Sole.{sole}
 use Rattle.tape.specs.Files.{wordsOf, bytesOf, readNumberOf, readFileOf, writeNumberOf, writeFileOf, FileRead, FileWritten}
 use Rattle.tape.proofs.Backs.{words-back, words-fit, bytes-back, length-fits, length-in}
 use Rattle.tape.proofs.Numbers.{Whole, Writable, read-whole, whole-read, write-fits, write-writable}
@@ -64,10 +63,3 @@ core-same-calls core room bytes old new r s p z l q =
     let same : (writeNumberOf core (length room) ≡ 0) × (readNumberOf (writeFileOf core room) (length old) ≡ 0) × (readFileOf (writeFileOf core room) old ≡ core) =
     core-same core room old (fit .fits) (fit .words) (fit .exact) l in
     (q .number ∙ rw (p .room) (same .1), q .core ∙ rw (p .room) (same .2))
-
--- Any two permitted answers are equal.
-pub read-sole : (bytes old new new′ : List ℕ) (r r′ : ℕ) → FileRead bytes old new r → FileRead bytes old new′ r′ → (r ≡ r′) × (new ≡ new′)
-read-sole bytes old new new′ r r′ p q = (sole (p .number) (q .number), sole (p .core) (q .core))
-
-pub write-sole : (core old new new′ : List ℕ) (r r′ : ℕ) → FileWritten core old new r → FileWritten core old new′ r′ → (r ≡ r′) × (new ≡ new′)
-write-sole core old new new′ r r′ p q = (sole (p .number) (q .number), sole (p .room) (q .room))

@@ -8,6 +8,7 @@ use borrow.Author.Tests.{eq-eqb, ne-eqb}
 use lib.ListN.{length, take, drop, getD, set}
 use lib.Seq.{drop-cons, drop-drop, take-suc-set, take-all}
 use Rattle.word.specs.Digits.{numeral}
+use Rattle.word.specs.Choices.{if_then_else_}
 use Rattle.tape.specs.Files.{wordsOf, readNumberOf, readFileOf}
 
 -- The six bytes from `at` on, one by one.
@@ -56,9 +57,9 @@ fill-end bytes core i n l h m e =
 -- ---- a file is read, or nothing is written
 
 pub read-yes : (bytes core : List ℕ) {new : List ℕ} → readNumberOf bytes (length core) ≡ 0 → new ≡ wordsOf (length core) bytes → new ≡ readFileOf bytes core
-unfolding readFileOf
+unfolding readFileOf if_then_else_
 read-yes bytes core z e = rw (eq-eqb (readNumberOf bytes (length core)) 0 z) e
 
 pub read-no : (bytes core : List ℕ) → (readNumberOf bytes (length core) ≡ 0 → ⊥) → core ≡ readFileOf bytes core
-unfolding readFileOf
+unfolding readFileOf if_then_else_
 read-no bytes core n = rw (ne-eqb (readNumberOf bytes (length core)) 0 n)

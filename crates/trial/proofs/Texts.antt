@@ -8,11 +8,13 @@ use native.Mathlib.Numerals.{add-one}
 use borrow.Author.Tests.{eq-eqb, ne-eqb}
 use lib.ListN.{length, getD, take, drop, set, length-set, length-append, length-drop, drop-of-length-le}
 use lib.Seq.{drop-cons, take-all, length-take-le}
+use Rattle.word.specs.Choices.{if_then_else_}
 use Rattle.word.specs.Digits.{digits, byteBase, toDigitsOf}
 use Rattle.word.proofs.Places.{digits-length}
 use Rattle.trial.specs.declared.trials.Sum.{Sum}
 use Rattle.trial.specs.declared.trials.Outcome.{Outcome}
 use Rattle.trial.specs.declared.trials.Outcome.the-variants.{Refused, Ended}
+use Rattle.trial.specs.Trials.{saysOutcome}
 use Rattle.trial.specs.Lines.{leadingOf, glyphOf, spelledOf, decimalOf, octalOf, sumLineOf, lineOf, setAll, Written}
 
 -- ---- one text after another
@@ -58,13 +60,13 @@ spell-next ds at c i l h = omega (arith, spelled-length ds c)
 -- ---- leading zeros: i are passed
 
 zero-first : (ds : List ℕ) (i : ℕ) → i + 1 < length ds → getD ds i 0 ≤ 0 → leadingOf (drop i ds) ≡ suc (leadingOf (drop (i + 1) ds))
-unfolding leadingOf
+unfolding leadingOf if_then_else_
 zero-first ds i h z =
     let zero′ : getD ds i 0 ≡ 0 = omega arith in
     rw (add-one i, drop-cons ds i 0 (omega arith), drop-cons ds (suc i) 0 (omega arith), eq-eqb (getD ds i 0) 0 zero′)
 
 other-first : (ds : List ℕ) (i : ℕ) → i + 1 < length ds → 0 < getD ds i 0 → leadingOf (drop i ds) ≡ 0
-unfolding leadingOf
+unfolding leadingOf if_then_else_
 other-first ds i h p =
     rw (drop-cons ds i 0 (omega arith), drop-cons ds (suc i) 0 (omega arith), ne-eqb (getD ds i 0) 0 (λ e. absurd (omega (arith, e))))
 
@@ -78,7 +80,7 @@ pub leading-found : (ds : List ℕ) (i : ℕ) → i + 1 < length ds → 0 < getD
 leading-found ds i h p e = omega (arith, e, other-first ds i h p)
 
 short : (ds : List ℕ) → length ds ≤ 1 → leadingOf ds ≡ 0
-unfolding leadingOf
+unfolding leadingOf if_then_else_
 short [] h = refl
 short (d ∷ []) h = refl
 short (d ∷ e ∷ ds) h = absurd (omega (arith, h))
@@ -89,11 +91,11 @@ leading-end ds i h e = omega (arith, e, short (drop i ds) (omega (arith, length-
 -- ---- the digits of a number, spelled
 
 written-ten : (n : ℕ) (old : List ℕ) → toDigitsOf 10 n old ≡ digits 10 (length old) n
-unfolding toDigitsOf byteBase
+unfolding toDigitsOf byteBase if_then_else_
 written-ten n old = refl
 
 written-eight : (n : ℕ) (old : List ℕ) → toDigitsOf 8 n old ≡ digits 8 (length old) n
-unfolding toDigitsOf byteBase
+unfolding toDigitsOf byteBase if_then_else_
 written-eight n old = refl
 
 pub decimal-said : {old new ds : List ℕ} {at k r : ℕ} (zeros : List ℕ) (n c : ℕ) → length zeros ≡ 20 → ds ≡ toDigitsOf 10 n zeros → k ≡ leadingOf ds
@@ -120,13 +122,13 @@ octal-said {old} {new} {ds} {at} {r} zeros n c z d w =
 
 -- ---- the line
 
-pub line-refused : {t : Outcome} {old new : List ℕ} {n r : ℕ} → t ≡ Refused n → Written old 0 (decimalOf n 10) new r → Written old 0 (lineOf t) new r
+pub line-refused : {t : Outcome} {old new : List ℕ} {n r : ℕ} → t ≡ Refused n → Written old 0 (decimalOf n 10) new r → Written old 0 (lineOf (saysOutcome t)) new r
 unfolding lineOf
-line-refused {t} {old} {new} {n} {r} e w = subst⁻¹ (λ (u : Outcome). Written old 0 (lineOf u) new r) e w
+line-refused {t} {old} {new} {n} {r} e w = subst⁻¹ (λ (u : Outcome). Written old 0 (lineOf (saysOutcome u)) new r) e w
 
-pub line-ended : {t : Outcome} {old new : List ℕ} {x : Sum} {r : ℕ} → t ≡ Ended x → Written old 0 (sumLineOf x) new r → Written old 0 (lineOf t) new r
+pub line-ended : {t : Outcome} {old new : List ℕ} {x : Sum} {r : ℕ} → t ≡ Ended x → Written old 0 (sumLineOf x) new r → Written old 0 (lineOf (saysOutcome t)) new r
 unfolding lineOf
-line-ended {t} {old} {new} {x} {r} e w = subst⁻¹ (λ (u : Outcome). Written old 0 (lineOf u) new r) e w
+line-ended {t} {old} {new} {x} {r} e w = subst⁻¹ (λ (u : Outcome). Written old 0 (lineOf (saysOutcome u)) new r) e w
 
 -- ---- what a caller that writes the room out asks
 

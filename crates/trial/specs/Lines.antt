@@ -4,17 +4,16 @@ use mathlib.Core.Path.{_≡_}
 use mathlib.Core.List.{List, [], _∷_, _++_}
 use lib.Dec.{eqb}
 use lib.ListN.{length, drop, set}
-use Rattle.word.specs.Choices.{choose}
+use Rattle.word.specs.Choices.{if_then_else_}
+use Rattle.word.specs.Answers.{OrNumber, the, givenBack}
 use Rattle.word.specs.Digits.{digits}
 use Rattle.trial.specs.declared.trials.Sum.{Sum}
-use Rattle.trial.specs.declared.trials.Outcome.{Outcome}
-use Rattle.trial.specs.declared.trials.Outcome.the-variants.{Refused, Ended}
 
 -- How many of the digits are leading zeros; the last digit is none.
 unfoldable pub leadingOf : List ℕ → ℕ
 leadingOf [] = 0
 leadingOf (d ∷ []) = 0
-leadingOf (d ∷ e ∷ ds) = choose (eqb d 0) (suc (leadingOf (e ∷ ds))) 0
+leadingOf (d ∷ e ∷ ds) = if eqb d 0 then suc (leadingOf (e ∷ ds)) else 0
 
 -- The character of a digit: 0 is 48.
 abbrev pub glyphOf : ℕ → ℕ
@@ -37,9 +36,9 @@ octalOf w after = spelledOf (digits 8 16 w) after
 unfoldable pub sumLineOf : Sum → List ℕ
 sumLineOf x = decimalOf (x .stop) 32 ++ (decimalOf (x .completed) 32 ++ (decimalOf (x .c) 32 ++ (decimalOf (x .l) 32 ++ (decimalOf (x .s) 32 ++ octalOf (x .cell) 10))))
 
-unfoldable pub lineOf : Outcome → List ℕ
-lineOf (Refused n) = decimalOf n 10
-lineOf (Ended x) = sumLineOf x
+unfoldable pub lineOf : OrNumber Sum → List ℕ
+lineOf (givenBack n) = decimalOf n 10
+lineOf (the x) = sumLineOf x
 
 -- The room with a text's characters set one after another, from a place on.
 unfoldable pub setAll : List ℕ → ℕ → List ℕ → List ℕ

@@ -5,11 +5,12 @@ ghost use mathlib.Core.Path.{_≡_};
 ghost use mathlib.Core.List.{_∷_, []};
 ghost use Prim.Native.Nat.{_+_, _≤_, _<_};
 ghost use lib.ListN.{length};
+ghost use Rattle.trial.specs.Trials.{saysOutcome};
 ghost use Rattle.trial.specs.Lines.{leadingOf, glyphOf, spelledOf, decimalOf, octalOf, sumLineOf, lineOf, Written};
 
 // Writes the line over the start of the room, and answers its length.
 pub fn line(t: Outcome, room: &mut [u8; 128]) -> usize
-    ensures { λ r. ⌜ Written (now (room .entry)) 0 (lineOf t) (now (room .exit)) r ⌝ }
+    ensures { λ r. ⌜ Written (now (room .entry)) 0 (lineOf (saysOutcome t)) (now (room .exit)) r ⌝ }
     ensures { λ r. ⌜ r ≤ 128 ⌝ }
 {
     match t {

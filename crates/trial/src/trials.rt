@@ -2,7 +2,7 @@
 use machine::Registers;
 ghost use mathlib.Core.Path.{_≡_};
 ghost use lib.ListN.{length};
-ghost use Rattle.trial.specs.Trials.{Told, trialOf};
+ghost use Rattle.trial.specs.Trials.{Told, saysOutcome, trialOf};
 ghost use Rattle.trial.specs.ForCode.Loads.{Loaded};
 
 // What a run leaves: the stop, the syllables completed, C, L, S and cell 9.
@@ -23,7 +23,7 @@ pub enum Outcome {
 
 // Runs an input of `total` bytes; `bytes` are the first of them, all where they are 4,096 words or fewer.
 pub fn trial(bytes: &[u8], total: usize) -> Outcome
-    ensures { λ r. ⌜ r ≡ trialOf (now (bytes .entry)) total ⌝ }
+    ensures { λ r. ⌜ saysOutcome r ≡ trialOf (now (bytes .entry)) total ⌝ }
 {
     let mut core = [0u64; 4096];
     let n = load(bytes, total, &mut core);
@@ -40,9 +40,11 @@ fn load(bytes: &[u8], total: usize, core: &mut [u64]) -> u64
     ensures { λ r. ⌜ Loaded (now (bytes .entry)) total (now (core .entry)) (now (core .exit)) r ⌝ }
 {
     if total % 6 == 0 {
-        if total <= 24576 {
-            let n = total / 6;
-            return tape::read_file(bytes, &mut core[..n]);
+        let n = total / 6;
+        if 0 < n {
+            if n <= 4096 {
+                return tape::read_file(bytes, &mut core[..n]);
+            }
         }
         return 1;
     }

@@ -8,6 +8,7 @@ use lib.Pow.{pow-pos, pow-add, shl-exact, shr-lt}
 use lib.Arith.{digits-div, digits-mod, digits-lt}
 use mir.Syntax.{w64}
 use mir.Val.{Fits}
+use Rattle.word.specs.Choices.{if_then_else_}
 use Rattle.word.specs.Field.{worth, span, field, bitsOf, placed, withField}
 
 -- The machine's 1 << n.
@@ -22,12 +23,15 @@ low-of x n h = rw power
 
 -- Bits that are there, and bits that are not.
 pub bits-yes : (w first last : ℕ) → first ≤ last → last ≤ 47 → field w first last ≡ bitsOf w first last
+unfolding if_then_else_
 bits-yes w first last h l = rw (le-leb first last h, le-leb last 47 l)
 
 pub bits-past : (w first last : ℕ) → first ≤ last → 47 < last → 0 ≡ bitsOf w first last
+unfolding if_then_else_
 bits-past w first last h l = rw (le-leb first last h, lt-leb last 47 l)
 
 pub bits-none : (w first last : ℕ) → last < first → 0 ≡ bitsOf w first last
+unfolding if_then_else_
 bits-none w first last h = rw (lt-leb first last h)
 
 -- What the machine's shifts give for a placed field.

@@ -5,3 +5,4 @@ pub mod Places
 pub mod Makings
 pub mod Sole
 pub mod Wholes
+pub mod OneAnswer

@@ -3,6 +3,7 @@ use Prim.Native.Nat.{ℕ, zero, suc, _+_, _-_, _*_, _/_, _%_, _^_, _≤_, _<_}
 use mathlib.Core.Path.{_≡_, refl, sym, _∙_, ap, subst}
 use mathlib.Core.Bool.{Bool, true, false, _&&_, false≢true}
 use mathlib.Core.List.{List, [], _∷_}
+use mathlib.Core.Option.{Option, some, none}
 use native.Mathlib.Nat.{pow-zero, pow-succ', pow-suc, mod-one, div-one, mul-one, add-zero, zero-add, sub-self, mod-eq-of-lt, one-le-pow, mod-lt, div-div-eq-div-mul, mul-le-mul-left, le-trans, le-add-right, mul-assoc, add-mul, add-assoc, mul-comm}
 use native.Mathlib.Omega.{arith}
 use native.Mathlib.Numerals.{add-one}
@@ -13,9 +14,8 @@ use lib.ListN.{length, getD, drop, set, length-set, length-drop, drop-of-length-
 use lib.Seq.{drop-cons, getD-set-same, drop-set-lt, drop-length}
 use mir.Syntax.{w8, w64}
 use mir.Val.{Fits}
-use Rattle.word.specs.Digits.{digits, numeral, below, byteBase, toDigitsOf, readBy, fromDigitsOf}
-use Rattle.word.specs.declared.digits.Reading.{Reading}
-use Rattle.word.specs.declared.digits.Reading.the-variants.{Number, Refused}
+use Rattle.word.specs.Digits.{digits, numeral, below, byteBase, toDigitsOf, ifWord, fromDigitsOf}
+use Rattle.word.specs.Choices.{if_then_else_}
 
 pub digits-length : (base k n : ℕ) → length (digits base k n) ≡ k
 unfolding digits
@@ -114,15 +114,16 @@ gather-more base n i ds h e =
     e ∙ rw (k, pow-succ' base (length ds - (i + 1)), drop-cons ds i 0 h, d, add-one i) (omega arith)
 
 pub gather-end : (base n i : ℕ) (ds : List ℕ) → i ≤ length ds → length ds ≤ i → n < 2 ^ 48 → numeral base ds ≡ n * base ^ (length ds - i) + numeral base (drop i ds)
-    → Number n ≡ readBy true (ltb (numeral base ds) (2 ^ 48)) (numeral base ds)
-unfolding numeral
+    → some n ≡ ifWord (numeral base ds)
+unfolding numeral if_then_else_
 gather-end base n i ds h l small e =
     let z : length ds - i ≡ 0 = omega arith in
     let f : numeral base ds ≡ n = e ∙ rw (z, drop-of-length-le ds l, pow-zero base) (omega arith) in
     rw (f, lt-ltb n (2 ^ 48) small)
 
 pub gather-past : (base n i : ℕ) (ds : List ℕ) → 0 < base → 2 ^ 48 ≤ n → numeral base ds ≡ n * base ^ (length ds - i) + numeral base (drop i ds)
-    → Refused ≡ readBy true (ltb (numeral base ds) (2 ^ 48)) (numeral base ds)
+    → none ≡ ifWord (numeral base ds)
+unfolding if_then_else_
 gather-past base n i ds h large e =
     let p : 1 ≤ base ^ (length ds - i) = one-le-pow (length ds - i) base h in
     let q : n * 1 ≤ n * base ^ (length ds - i) = mul-le-mul-left n p in
@@ -151,17 +152,17 @@ base-in base e = (leb-true 2 base (first (leb 2 base) (leb base 256) e), leb-tru
     second false b e = absurd (false≢true e)
 
 pub written-yes : (base n : ℕ) (old : List ℕ) {new : List ℕ} → byteBase base ≡ true → new ≡ digits base (length old) n → new ≡ toDigitsOf base n old
-unfolding toDigitsOf
+unfolding toDigitsOf if_then_else_
 written-yes base n old e d = rw e d
 
 pub written-no : (base n : ℕ) (old : List ℕ) → byteBase base ≡ false → old ≡ toDigitsOf base n old
-unfolding toDigitsOf
+unfolding toDigitsOf if_then_else_
 written-no base n old e = rw e
 
-pub read-yes : (base : ℕ) (ds : List ℕ) {r : Reading} → byteBase base ≡ true → r ≡ readBy true (ltb (numeral base ds) (2 ^ 48)) (numeral base ds) → r ≡ fromDigitsOf base ds
-unfolding fromDigitsOf
+pub read-yes : (base : ℕ) (ds : List ℕ) {r : Option ℕ} → byteBase base ≡ true → r ≡ ifWord (numeral base ds) → r ≡ fromDigitsOf base ds
+unfolding fromDigitsOf if_then_else_
 read-yes base ds e d = rw e d
 
-pub read-no : (base : ℕ) (ds : List ℕ) → byteBase base ≡ false → Refused ≡ fromDigitsOf base ds
-unfolding fromDigitsOf
+pub read-no : (base : ℕ) (ds : List ℕ) → byteBase base ≡ false → none ≡ fromDigitsOf base ds
+unfolding fromDigitsOf if_then_else_
 read-no base ds e = rw e

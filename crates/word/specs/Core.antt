@@ -6,8 +6,11 @@ use lib.Dec.{ltb, leb}
 use lib.ListN.{length}
 
 -- "1: core length 0 or over 32,768"
+abbrev pub countFits : ℕ → Bool
+countFits n = ltb 0 n && leb n 32768
+
 unfoldable pub lengthFits : List ℕ → Bool
-lengthFits core = ltb 0 (length core) && leb (length core) 32768
+lengthFits core = countFits (length core)
 
 -- "2: a core word at or above 2^48"
 unfoldable pub wordsFit : List ℕ → Bool

@@ -1,11 +1,11 @@
 -- The digits of a number to any base, and back.
 use Prim.Native.Nat.{ℕ, zero, suc, _+_, _*_, _/_, _%_, _^_, _<_}
-use mathlib.Core.Bool.{Bool, true, false, _&&_}
+use mathlib.Core.Bool.{Bool, _&&_}
 use mathlib.Core.List.{List, [], _∷_}
+use mathlib.Core.Option.{Option, some, none}
 use lib.Dec.{leb, ltb}
 use lib.ListN.{length, getD}
-use Rattle.word.specs.declared.digits.Reading.{Reading}
-use Rattle.word.specs.declared.digits.Reading.the-variants.{Number, Refused}
+use Rattle.word.specs.Choices.{if_then_else_}
 
 -- The last `count` digits of a number, the highest first: digit k from the end is worth base ^ k.
 unfoldable pub digits : ℕ → ℕ → ℕ → List ℕ
@@ -26,18 +26,13 @@ unfoldable pub byteBase : ℕ → Bool
 byteBase base = leb 2 base && leb base 256
 
 -- Digits are written over the old ones, or all is left where the base is not 2 to 256.
-abbrev pub writtenBy : Bool → List ℕ → List ℕ → List ℕ
-writtenBy true new old = new
-writtenBy false new old = old
-
 unfoldable pub toDigitsOf : ℕ → ℕ → List ℕ → List ℕ
-toDigitsOf base n old = writtenBy (byteBase base) (digits base (length old) n) old
+toDigitsOf base n old = if byteBase base then digits base (length old) n else old
 
--- Digits are read as a word, below 2^48, or refused.
-abbrev pub readBy : Bool → Bool → ℕ → Reading
-readBy true true n = Number n
-readBy true false n = Refused
-readBy false small n = Refused
+-- A word, where it is below 2^48, or none.
+abbrev pub ifWord : ℕ → Option ℕ
+ifWord n = if ltb n (2 ^ 48) then some n else none
 
-unfoldable pub fromDigitsOf : ℕ → List ℕ → Reading
-fromDigitsOf base ds = readBy (byteBase base) (ltb (numeral base ds) (2 ^ 48)) (numeral base ds)
+-- Digits are read as a word, or none where the base is not 2 to 256.
+unfoldable pub fromDigitsOf : ℕ → List ℕ → Option ℕ
+fromDigitsOf base ds = if byteBase base then ifWord (numeral base ds) else none

@@ -2,6 +2,7 @@
 use Prim.Native.Nat.{ℕ, _+_, _-_, _*_, _/_, _%_, _^_}
 use mathlib.Core.Bool.{Bool, true, false, _&&_}
 use lib.Dec.{eqb, leb}
+use Rattle.word.specs.Choices.{if_then_else_}
 
 -- "A word has 48 bits; bit 0 is the highest, bit 47 is worth 1." What bit n is worth.
 abbrev pub worth : ℕ → ℕ
@@ -16,12 +17,8 @@ abbrev pub field : ℕ → ℕ → ℕ → ℕ
 field w first last = w / worth last % span first last
 
 -- The same for any first and last: 0 where they name no bits of a word.
-abbrev pub orZero : Bool → ℕ → ℕ
-orZero true x = x
-orZero false x = 0
-
 abbrev pub bitsOf : ℕ → ℕ → ℕ → ℕ
-bitsOf w first last = orZero (leb first last && leb last 47) (field w first last)
+bitsOf w first last = if leb first last && leb last 47 then field w first last else 0
 
 -- A number written as bits first to last of a word that is 0 elsewhere.
 abbrev pub placed : ℕ → ℕ → ℕ → ℕ

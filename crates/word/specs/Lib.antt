@@ -1,4 +1,5 @@
 pub mod Choices
+pub mod Answers
 pub mod Field
 pub mod Layout
 pub mod Backs

@@ -8,7 +8,9 @@ use lib.IntN.{natAbs}
 use Rattle.word.specs.Layout.{signOf, exponentOf, magnitudeOf}
 use Rattle.word.specs.Numbers.{signed, negative, valueOf, wholeOf}
 use Rattle.wording.specs.declared.numbers.Signed.the-variants.{Plus, Minus, NotWhole}
-use Rattle.wording.specs.Signs.{OrNumber, the, saysSigned, signedOf}
+use Rattle.word.specs.Answers.{OrNumber, the}
+use Rattle.word.specs.Choices.{if_then_else_}
+use Rattle.wording.specs.Signs.{saysSigned, signedOf}
 
 -- what a sign and a magnitude say
 abbrev said : Bool → ℕ → OrNumber (Bool × ℕ)
@@ -27,9 +29,9 @@ pub signed-plus : (b : Bool) (m : ℕ) → b ≡ false → saysSigned (Plus m) �
 signed-plus b m e = rw e
 
 pub signed-whole : (w : ℕ) {x m : ℕ} {b : Bool} {v : OrNumber (Bool × ℕ)} → x ≡ exponentOf w → x ≡ 0 → b ≡ signOf w → m ≡ magnitudeOf w → v ≡ said b m → v ≡ signedOf (wholeOf w)
-unfolding wholeOf valueOf
+unfolding wholeOf valueOf if_then_else_
 signed-whole w x z b m e = e ∙ rw (eq-eqb (exponentOf w) 0 (sym x ∙ z), b, m)
 
 pub signed-none : (w : ℕ) {x : ℕ} → x ≡ exponentOf w → (x ≡ 0 → ⊥) → saysSigned NotWhole ≡ signedOf (wholeOf w)
-unfolding wholeOf
+unfolding wholeOf if_then_else_
 signed-none w x h = rw (ne-eqb (exponentOf w) 0 (λ z. h (x ∙ z)))

@@ -4,7 +4,8 @@ ghost use Prim.Native.Nat.{_<_};
 ghost use lib.IntN.{natAbs};
 ghost use Rattle.word.specs.Numbers.{signed, negative, wholeOf};
 ghost use Rattle.wording.specs.FromText.{fromTextOf};
-ghost use Rattle.wording.specs.Signs.{the, saysSigned, signedOf};
+ghost use Rattle.word.specs.Answers.{the};
+ghost use Rattle.wording.specs.Signs.{saysSigned, signedOf};
 ghost use Rattle.wording.specs.ForCode.Caps.{cappedOf};
 
 // What a text was read as.

@@ -1,5 +1,6 @@
 use mathlib.Core.Path.{sym, _∙_}
 use Rattle.word.specs.Kinds.{kindOf}
+use Rattle.word.specs.Choices.{if_then_else_}
 use borrow.Author.Needs.{needs}
 use Rattle.word.proofs.kinds.kind_of.Statement.{statement}
 use Rattle.word.proofs.kinds.kind_of.Tie as tie
@@ -21,22 +22,22 @@ bit-requires-3 c κs = search needs
 
 -- src/kinds.rt:19:17
 returns : tie.Need-returns
-unfolding kindOf
+unfolding kindOf if_then_else_
 returns c = rw (sym (c .before .before .before .before .before .bit .ensures) ∙ c .before .before .before .before .if1 .taken, sym (c .before .before .before .bit2 .ensures) ∙ c .before .before .if2 .taken, sym (c .before .bit3 .ensures) ∙ c .if3 .taken)
 
 -- src/kinds.rt:21:13
 returns-2 : tie.Need-returns-2
-unfolding kindOf
+unfolding kindOf if_then_else_
 returns-2 c = rw (sym (c .before .before .before .before .before .bit .ensures) ∙ c .before .before .before .before .if1 .taken, sym (c .before .before .before .bit2 .ensures) ∙ c .before .before .if2 .taken, sym (c .before .bit3 .ensures) ∙ c .if3 .left)
 
 -- src/kinds.rt:23:9
 returns-3 : tie.Need-returns-3
-unfolding kindOf
+unfolding kindOf if_then_else_
 returns-3 c = rw (sym (c .before .before .before .bit .ensures) ∙ c .before .before .if1 .taken, sym (c .before .bit2 .ensures) ∙ c .if2 .left)
 
 -- src/kinds.rt:13:1
 returns-4 : tie.Need-returns-4
-unfolding kindOf
+unfolding kindOf if_then_else_
 returns-4 c = rw (sym (c .before .bit .ensures) ∙ c .if1 .left)
 
 pub kind-of-spec : {M : Type 1} → statement M
