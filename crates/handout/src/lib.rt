@@ -77,13 +77,3 @@ pub fn hand_out(core: &[u64], r: u16, cell: u16) -> &[u64]
     let to = from + s.count;
     &core[from..to]
 }
-
-// The same to write into.
-pub fn hand_out_mut(core: &mut [u64], r: u16, cell: u16) -> &mut [u64]
-    ensures { λ s. ⌜ HandedOut (core .entry) s r cell ⌝ }
-{
-    let s = hand_out_bounds(&core[..], r, cell);
-    let from = s.start;
-    let to = from + s.count;
-    &mut core[from..to]
-}
