@@ -6,10 +6,11 @@ use mathlib.Core.List.{List}
 use native.Mathlib.Omega.{arith}
 use borrow.Author.Tests.{ne-eqb}
 use lib.Dec.{eqb}
-use lib.ListN.{getD}
+use lib.ListN.{length, getD}
 use Rattle.sheet.specs.Sheets.{rOf, cellOf}
 use Rattle.inspector.specs.Cells.{plainWords, arrayFits, unfit}
-use Rattle.inspector.specs.ForCode.Forms.{namedOf, clearOf}
+use Rattle.inspector.specs.ForCode.Forms.{clearOf}
+use Rattle.word.specs.Arrays.{arrayIn}
 use Rattle.word.specs.Layout.{flagOf, sizeOf, addressOf}
 
 -- The words of an array below the j-th are plain.
@@ -48,24 +49,20 @@ plain-all core a n j h p =
     sym (p .plain ∙ ap (plainWords core (a + j)) k)
 
 -- The definition tests the descriptor, then the area, then the words.
-joined : (a b c d e f : Bool) → ((a && (b && c && d && e)) && f) ≡ (a && b && c && d && e && f)
-joined true b c d e f = refl
-joined false b c d e f = refl
+joined : (a b c d e : Bool) → ((a && (b && c && d)) && e) ≡ (a && b && c && d && e)
+joined true b c d e = refl
+joined false b c d e = refl
 
-fits-as : (core sheet : List ℕ) (d : ℕ) → ((namedOf d && clearOf core sheet (addressOf d) (sizeOf d)) && plainWords core (addressOf d) (sizeOf d)) ≡ arrayFits core sheet d
+fits-as : (core sheet : List ℕ) (d : ℕ) → ((arrayIn (length core) d && clearOf sheet (addressOf d) (sizeOf d)) && plainWords core (addressOf d) (sizeOf d)) ≡ arrayFits core sheet d
 unfolding arrayFits
-fits-as core sheet d = joined (namedOf d) _ _ _ _ (plainWords core (addressOf d) (sizeOf d))
+fits-as core sheet d = joined (arrayIn (length core) d) _ _ _ (plainWords core (addressOf d) (sizeOf d))
 
--- A chain of four tests, each the code's.
-pub chained : (x : Bool) {n₁ n₂ n₃ c₁ c₂ c₃ b₁ b₂ r : Bool} → n₁ ≡ c₁ → n₂ ≡ c₂ → n₃ ≡ c₃ → b₁ ≡ (x && n₁) → b₂ ≡ (b₁ && n₂) → r ≡ (b₂ && n₃) → r ≡ (x && c₁ && c₂ && c₃)
-chained x e f g p q t = cc
-
-module _ (core sheet : List ℕ) (d a n : ℕ) {named clear both : Bool} (at : a ≡ addressOf d) (of : n ≡ sizeOf d)
-    (e : named ≡ namedOf d) (f : clear ≡ clearOf core sheet a n) (g : both ≡ (named && clear)) where
-  tested : both ≡ (namedOf d && clearOf core sheet (addressOf d) (sizeOf d))
+module _ (core sheet : List ℕ) (d a n : ℕ) {array clear both : Bool} (at : a ≡ addressOf d) (of : n ≡ sizeOf d)
+    (e : array ≡ arrayIn (length core) d) (f : clear ≡ clearOf sheet a n) (g : both ≡ (array && clear)) where
+  tested : both ≡ (arrayIn (length core) d && clearOf sheet (addressOf d) (sizeOf d))
   tested =
       g ∙ ap (λ (b : Bool). b && clear) e
-      ∙ ap (λ (b : Bool). namedOf d && b) (f ∙ ap (λ (x : ℕ). clearOf core sheet x n) at ∙ ap (clearOf core sheet (addressOf d)) of)
+      ∙ ap (λ (b : Bool). arrayIn (length core) d && b) (f ∙ ap (λ (x : ℕ). clearOf sheet x n) at ∙ ap (clearOf sheet (addressOf d)) of)
 
   pub array-yes : {r : Bool} → both ≡ true → r ≡ plainWords core a n → r ≡ arrayFits core sheet d
   array-yes t p =

@@ -15,6 +15,7 @@ use Rattle.machine.specs.Branches.{landingOf}
 use Rattle.syllable.specs.Decoding.{decodeOf}
 use Rattle.syllable.specs.Positions.{syllableOf}
 use Rattle.word.specs.Core.{lengthFits, wordsFit}
+use Rattle.word.specs.Arrays.{arrayIn}
 use Rattle.sheet.specs.Sheets.{cellOf}
 
 -- 128 words, the code at word 0, as the paper's input bytes give it, all else 0.
@@ -29,5 +30,5 @@ sheet d cell = 1 ∷ 0 ∷ 0 ∷ 0 ∷ 0 ∷ 1 ∷ 2 ∷ 0 ∷ 0 ∷ 31 ∷ 0 �
 pub examples :
     map (verdictOf core) (sheet 2 9 ∷ sheet 1 9 ∷ sheet 2 10 ∷ [])
     ≡ given 0 0 ∷ given 34 1 ∷ given 34 3 ∷ []
-unfolding verdictOf lengthFits wordsFit sheetFits recordGood astray unfit cellOf arrayFits plainWords breaksAt shapeAt missesTarget landingOf if_then_else_ decodeOf syllableOf
+unfolding verdictOf lengthFits wordsFit sheetFits recordGood astray unfit cellOf arrayFits arrayIn plainWords breaksAt shapeAt missesTarget landingOf if_then_else_ decodeOf syllableOf
 examples = refl

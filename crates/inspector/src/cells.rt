@@ -14,7 +14,7 @@ ghost use Rattle.sheet.specs.Sheets.{entries, codeOf, codeWordsOf, sOf, roomOf,
 ghost use Rattle.inspector.specs.Areas.{meets as meetsOf};
 ghost use Rattle.inspector.specs.Cells.{plainWords, arrayFits, unfit as unfitOf};
 ghost use Rattle.inspector.specs.Verdicts.{lowest};
-ghost use Rattle.inspector.specs.ForCode.Forms.{foundOf, Painted, Cells, namedOf, clearOf};
+ghost use Rattle.inspector.specs.ForCode.Forms.{foundOf, Painted, Cells, clearOf};
 
 // The word at an address, and 0 outside core.
 pub fn word_at(core: &[u64], at: usize) -> u64
@@ -77,19 +77,6 @@ fn plain_words(core: &[u64], a: u16, n: u16) -> bool
     true
 }
 
-// A present data descriptor of size over 0.
-fn named(d: u64) -> bool
-    ensures { λ r. ⌜ r ≡ namedOf d ⌝ }
-{
-    both(
-        both(
-            both(word::flag(d), negated(word::sign(d))),
-            word::presence(d),
-        ),
-        0 < word::size(d),
-    )
-}
-
 // The n words from a on meet no code word.
 fn clear_of_code(sheet: &[u8], a: u16, n: u16) -> bool
     ensures { λ r. ⌜ r ≡ not (meetsOf a n (codeOf (now (sheet .entry))) (codeWordsOf (now (sheet .entry)))) ⌝ }
@@ -117,15 +104,14 @@ fn clear_of_table(sheet: &[u8], a: u16, n: u16) -> bool
     negated(meets(a as u32, n, 64 * r as u32, table))
 }
 
-// An array's area is in core, and meets none of the three stretches.
-fn clear(core: &[u64], sheet: &[u8], a: u16, n: u16) -> bool
-    ensures { λ r. ⌜ r ≡ clearOf (now (core .entry)) (now (sheet .entry)) a n ⌝ }
+// The n words from a on meet none of the three stretches.
+fn clear(sheet: &[u8], a: u16, n: u16) -> bool
+    ensures { λ r. ⌜ r ≡ clearOf (now (sheet .entry)) a n ⌝ }
 {
-    let end = a as usize + n as usize;
     let code = clear_of_code(sheet, a, n);
     let stack = clear_of_stack(sheet, a, n);
     let table = clear_of_table(sheet, a, n);
-    both(both(both(end <= core.len(), code), stack), table)
+    both(both(code, stack), table)
 }
 
 fn array_fits(core: &[u64], sheet: &[u8], d: u64) -> bool
@@ -133,7 +119,7 @@ fn array_fits(core: &[u64], sheet: &[u8], d: u64) -> bool
 {
     let a = word::address(d);
     let n = word::size(d);
-    if both(named(d), clear(core, sheet, a, n)) {
+    if both(word::array_in(core.len(), d), clear(sheet, a, n)) {
         return plain_words(core, a, n);
     }
     false

@@ -23,8 +23,6 @@ use Rattle.inspector.specs.Targets.{isEmpty, distance, missesTarget}
 use Rattle.machine.specs.Outcomes.{Res, on, halt}
 use Rattle.machine.specs.declared.outcome.Cause.the-variants.{Address}
 use Rattle.syllable.specs.Numbers.{operatorNumbers as numbersOf}
-use Rattle.word.specs.Field.{bit}
-use Rattle.word.specs.Layout.{flagOf, presenceOf, sizeOf}
 use Rattle.inspector.specs.Records.{recordGood}
 
 abbrev pub foundOf : Find → Found
@@ -44,14 +42,10 @@ pub record Cells (cells sheet : List ℕ) : Type 0 where
   pub sized : length cells ≡ 1024
   pub cell : (c : ℕ) → c < 1024 → getD cells c 0 ≡ cellOf sheet c
 
--- The first half of an array cell's rule: of its descriptor; and of its area.
-abbrev pub namedOf : ℕ → Bool
-namedOf d = flagOf d && not (bit d 1) && presenceOf d && ltb 0 (sizeOf d)
-
-abbrev pub clearOf : List ℕ → List ℕ → ℕ → ℕ → Bool
-clearOf core sheet a n =
-    leb (a + n) (length core) && not (meets a n (codeOf sheet) (codeWordsOf sheet))
-    && not (meets a n (sOf sheet + 1) (roomOf sheet))
+-- "meeting none of those three": the n words from a on.
+abbrev pub clearOf : List ℕ → ℕ → ℕ → Bool
+clearOf sheet a n =
+    not (meets a n (codeOf sheet) (codeWordsOf sheet)) && not (meets a n (sOf sheet + 1) (roomOf sheet))
     && not (meets a n (64 * rOf sheet) (tableOf sheet))
 
 -- An item as a number: a literal is itself, 1,024 a number, all else a place.
