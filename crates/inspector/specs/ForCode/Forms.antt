@@ -14,16 +14,15 @@ use Rattle.inspector.specs.declared.shapes.Effect.{Effect}
 use Rattle.inspector.specs.declared.shapes.Effect.the-variants.{Drops, Puts, Swaps, Breaks}
 use Rattle.inspector.specs.declared.shapes.Scanned.{Scanned}
 use Rattle.inspector.specs.declared.shapes.Scanned.the-variants.{Height, Broken}
-use Rattle.inspector.specs.Verdicts.{Found, at, nowhere, lowest, given, blamed}
+use Rattle.inspector.specs.Verdicts.{Found, at, nowhere, lowest, answerOf}
 use Rattle.sheet.specs.Sheets.{entries, codeOf, codeWordsOf, sOf, roomOf, rOf, tableOf, cellOf}
-use Rattle.inspector.specs.Areas.{meets, astray}
-use Rattle.inspector.specs.Cells.{unfit}
+use Rattle.inspector.specs.Areas.{meets}
+use Rattle.inspector.specs.Rules.{rules}
 use Rattle.inspector.specs.Scan.{Item, literal, number, place, Shape, Left, leaves, breaks, exchanged, writable, within, shapeAt, breaksAt}
-use Rattle.inspector.specs.Targets.{isEmpty, distance, missesTarget}
+use Rattle.inspector.specs.Targets.{isEmpty, distance}
 use Rattle.machine.specs.Outcomes.{Res, on, halt}
 use Rattle.machine.specs.declared.outcome.Cause.the-variants.{Address}
 use Rattle.syllable.specs.Numbers.{operatorNumbers as numbersOf}
-use Rattle.inspector.specs.Records.{recordGood}
 
 abbrev pub foundOf : Find → Found
 foundOf (At p) = at p
@@ -148,17 +147,12 @@ pub record SheetRanged (sheet : List ℕ) : Type 0 where
   pub room : roomOf sheet ≤ 1024
   pub table : tableOf sheet ≤ 1024
 
--- The answer of the rules 34 and 35, and of the rules from 33 on.
-abbrev pub flowOf : List ℕ → List ℕ → Verdict
-flowOf core sheet =
-    blamed 34 (lowest (breaksAt core sheet) (4 * codeWordsOf sheet) 0)
-    (blamed 35 (lowest (missesTarget core sheet) (4 * codeWordsOf sheet) 0) (given 0 0))
+-- The answer of the rules from 31, from 33 and from 34 on.
+abbrev pub recordsOf : List ℕ → List ℕ → Verdict
+recordsOf core sheet = answerOf (drop 3 (rules core sheet))
 
 abbrev pub cellsOnOf : List ℕ → List ℕ → Verdict
-cellsOnOf core sheet = blamed 33 (lowest (unfit core sheet) (tableOf sheet) 0) (flowOf core sheet)
+cellsOnOf core sheet = answerOf (drop 5 (rules core sheet))
 
--- The answer of the rules from 31 on.
-abbrev pub recordsOf : List ℕ → List ℕ → Verdict
-recordsOf core sheet =
-    blamed 31 (lowest (λ (i : ℕ). not (recordGood sheet i)) (entries sheet) 0)
-    (blamed 32 (lowest (astray core sheet) 3 0) (cellsOnOf core sheet))
+abbrev pub flowOf : List ℕ → List ℕ → Verdict
+flowOf core sheet = answerOf (drop 6 (rules core sheet))
