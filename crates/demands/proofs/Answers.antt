@@ -12,6 +12,7 @@ use Rattle.word.specs.Core.{lengthFits, wordsFit}
 use Rattle.sheet.specs.Sheets.{entryAt, entries, codeOf, codeWordsOf, sOf, roomOf, rOf, tableOf, cellIn, cellOf}
 use Rattle.inspector.specs.Areas.{meets, astray}
 use Rattle.inspector.specs.Cells.{arrayFits, unfit}
+use Rattle.inspector.specs.Turns.{turnOf}
 use Rattle.inspector.specs.Scan.{shapeAt, broken, syllableAt, closes, breaksAt}
 use Rattle.inspector.specs.Targets.{missesTarget}
 use Rattle.inspector.specs.Verdicts.{given, verdictOf}
@@ -87,12 +88,12 @@ module _ (core sheet : List ℕ) where
   scanned : (i : ℕ) → breaksAt core sheet i ≡ false → broken (shapeAt core sheet (suc i)) ≡ false
   unfolding breaksAt
   scanned i e =
-      denies-or (denies (broken (shapeAt core sheet (suc i)))) (denies (eqb (suc i) (4 * codeWordsOf sheet) && not (closes (syllableAt core sheet i)))) e .0
+      denies-or (denies (broken (shapeAt core sheet (suc i)))) (denies (eqb (suc i) (4 * codeWordsOf sheet) && not (closes (turnOf (syllableAt core sheet i))))) e .0
 
-  closed : (i : ℕ) → breaksAt core sheet i ≡ false → suc i ≡ 4 * codeWordsOf sheet → closes (syllableAt core sheet i) ≡ true
+  closed : (i : ℕ) → breaksAt core sheet i ≡ false → suc i ≡ 4 * codeWordsOf sheet → closes (turnOf (syllableAt core sheet i)) ≡ true
   unfolding breaksAt
   closed i e h =
-      denies-or (denies (broken (shapeAt core sheet (suc i)))) (denies-and (eq-eqb (suc i) (4 * codeWordsOf sheet) h) (denies-not (closes (syllableAt core sheet i)))) e .1
+      denies-or (denies (broken (shapeAt core sheet (suc i)))) (denies-and (eq-eqb (suc i) (4 * codeWordsOf sheet) h) (denies-not (closes (turnOf (syllableAt core sheet i))))) e .1
 
   cell-low : (n : ℕ) → ((j : ℕ) → 3 ≤ j → j < 3 + (n - 3) → recordGood sheet j ≡ true) → (c k : ℕ) → cellIn sheet (n - 3) 3 c ≡ suc k → c < tableOf sheet
   cell-low n f c k e = cell-in sheet (tableOf sheet) (n - 3) 3 c k (λ j p q. good j p (f j p q)) e

@@ -1,6 +1,7 @@
 pub mod Records
 pub mod Areas
 pub mod Cells
+pub mod Turns
 pub mod Scan
 pub mod Targets
 pub mod Rules

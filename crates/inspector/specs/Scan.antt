@@ -15,6 +15,7 @@ use Rattle.syllable.specs.declared.Syllable.{Syllable}
 use Rattle.syllable.specs.declared.Syllable.the-variants.{Litc, Opdc, Desc, Operator as Operates}
 use Rattle.syllable.specs.Decoding.{decodeOf}
 use Rattle.syllable.specs.Positions.{syllableOf}
+use Rattle.inspector.specs.Turns.{Turn, branches, communicates, neither, turnOf}
 
 -- "items are literal k, number, place"; the top of a shape stands first.
 pub data Item : Type 0 where
@@ -181,43 +182,15 @@ broken (leaves xs) = false
 broken breaks = true
 
 -- "The last syllable is COM, BFW or BBW."
-abbrev pub closesBranch : BranchGroup → Bool
-closesBranch Bfw = true
-closesBranch Bbw = true
-closesBranch Bfc = false
-closesBranch Bbc = false
-
-abbrev pub closesOperator : Operator → Bool
-closesOperator (Arithmetic o) = false
-closesOperator (Relation o) = false
-closesOperator (Logic o) = false
-closesOperator (Branch o) = closesBranch o
-closesOperator Mop = false
-closesOperator Mds = false
-closesOperator Ssp = false
-closesOperator Ssn = false
-closesOperator Chs = false
-closesOperator Top = false
-closesOperator Xch = false
-closesOperator Dup = false
-closesOperator Del = false
-closesOperator Nop = false
-closesOperator Lod = false
-closesOperator Std = false
-closesOperator Snd = false
-closesOperator Inx = false
-closesOperator Mks = false
-closesOperator Xit = false
-closesOperator Com = true
-closesOperator (NotBuilt k) = false
-
-abbrev pub closes : Syllable → Bool
-closes (Litc k) = false
-closes (Opdc k) = false
-closes (Desc k) = false
-closes (Operates o) = closesOperator o
+abbrev pub closes : Turn → Bool
+closes (branches Bfw) = true
+closes (branches Bbw) = true
+closes (branches Bfc) = false
+closes (branches Bbc) = false
+closes communicates = true
+closes neither = false
 
 -- "34, first syllable breaking the scan."
 unfoldable pub breaksAt : List ℕ → List ℕ → ℕ → Bool
 breaksAt core sheet i =
-    broken (shapeAt core sheet (suc i)) || (eqb (suc i) (4 * codeWordsOf sheet) && not (closes (syllableAt core sheet i)))
+    broken (shapeAt core sheet (suc i)) || (eqb (suc i) (4 * codeWordsOf sheet) && not (closes (turnOf (syllableAt core sheet i))))
