@@ -6,4 +6,5 @@ pub mod Scan
 pub mod Targets
 pub mod Rules
 pub mod Verdicts
+pub mod Examples
 pub mod ForCode
