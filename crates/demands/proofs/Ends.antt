@@ -15,7 +15,7 @@ use Rattle.syllable.specs.declared.Syllable.{Syllable}
 use Rattle.syllable.specs.Positions.{nextOf}
 use Rattle.sheet.specs.Sheets.{codeOf, codeWordsOf, roomOf}
 use Rattle.inspector.specs.Turns.{turnOf}
-use Rattle.inspector.specs.Scan.{Shape, Left, leaves, breaks, when, within, then, broken, syllableAt, syllableLeft, shapeAt, closes}
+use Rattle.inspector.specs.Scan.{Shape, Left, leaves, breaks, when, within, carried, broken, syllableAt, syllableLeft, shapeAt, closes}
 use Rattle.inspector.specs.Targets.{isEmpty, lands}
 use Rattle.demands.specs.Stays.{Allowed}
 use Rattle.demands.proofs.Tests.{shows-and, shows, shows-lt, shows-le}
@@ -73,7 +73,7 @@ module _ (core sheet : List ℕ) (ok : Passed core sheet) where
     pub shape-next : shapeAt core sheet (suc i) ≡ within (roomOf sheet) (syllableLeft sheet x xs)
     unfolding shapeAt
     shape-next =
-        ap (λ (o : Left). then o (λ xs. within (roomOf sheet) (syllableLeft sheet (syllableAt core sheet i) xs))) shape
+        ap (λ (o : Left). carried o (λ xs. within (roomOf sheet) (syllableLeft sheet (syllableAt core sheet i) xs))) shape
         ∙ ap (λ (y : Syllable). within (roomOf sheet) (syllableLeft sheet y xs)) q
 
     pub left-next : broken (within (roomOf sheet) (syllableLeft sheet x xs)) ≡ false

@@ -21,12 +21,15 @@ use Rattle.syllable.specs.declared.Syllable.{Syllable}
 use Rattle.syllable.specs.Decoding.{decodeOf}
 use Rattle.syllable.specs.ForCode.Numbered.{syllableNumbered as numbered}
 use Rattle.syllable.specs.Positions.{syllableOf, nextOf}
+use Rattle.word.specs.Choices.{if_then_else_}
 
 pub far-yes : (m : ℕ) {r : ℕ} → m < 1025 → r ≡ m - 1 → r ≡ farOf m
-far-yes m h e = e ∙ sym (ap (λ (s : Bool). elim s [ true ↦ m - 1 | false ↦ 0 ]) (lt-ltb m 1025 h))
+unfolding if_then_else_
+far-yes m h e = e ∙ sym (ap (λ (s : Bool). if s then m - 1 else 0) (lt-ltb m 1025 h))
 
 pub far-no : (m : ℕ) → 1025 ≤ m → 0 ≡ farOf m
-far-no m h = sym (ap (λ (s : Bool). elim s [ true ↦ m - 1 | false ↦ 0 ]) (le-ltb m 1025 h))
+unfolding if_then_else_
+far-no m h = sym (ap (λ (s : Bool). if s then m - 1 else 0) (le-ltb m 1025 h))
 
 module _ {marks : List ℕ} {code words : ℕ} (t : ℕ) (core sheet : List ℕ) (a : Aimed core sheet marks code words) where
   -- A landing by the code's own numbers.

@@ -15,7 +15,7 @@ use Rattle.inspector.specs.declared.shapes.Scanned.{Scanned}
 use Rattle.inspector.specs.declared.shapes.Scanned.the-variants.{Height, Broken}
 use Rattle.sheet.specs.Sheets.{codeOf, codeWordsOf, roomOf}
 use Rattle.inspector.specs.Turns.{turnOf}
-use Rattle.inspector.specs.Scan.{Shape, Left, leaves, breaks, then, within, broken, closes, syllableLeft, syllableAt, shapeAt, breaksAt}
+use Rattle.inspector.specs.Scan.{Shape, Left, leaves, breaks, carried, within, broken, closes, syllableLeft, syllableAt, shapeAt, breaksAt}
 use Rattle.inspector.specs.ForCode.Forms.{shapeOf, scannedOf, Became, Mark, Marked, marksOf, Scans}
 use Rattle.inspector.proofs.Searches.{Sought, sought-none, sought-more, sought-at, sought-all}
 use Rattle.syllable.specs.declared.Syllable.{Syllable}
@@ -58,7 +58,7 @@ module _ {core sheet items marks new : List ℕ} {h i room code words : ℕ} {r 
   next : shapeAt core sheet (suc i) ≡ scannedOf new r
   unfolding shapeAt
   next =
-      ap (λ (s : Left). then s (λ xs. within (roomOf sheet) (syllableLeft sheet (syllableAt core sheet i) xs))) (g .shape)
+      ap (λ (s : Left). carried s (λ xs. within (roomOf sheet) (syllableLeft sheet (syllableAt core sheet i) xs))) (g .shape)
       ∙ ap (λ (s : Syllable). within (roomOf sheet) (syllableLeft sheet s (shapeOf items h))) (sym reads)
       ∙ ap (λ (m : ℕ). within m (syllableLeft sheet (numbered n k) (shapeOf items h))) (sym er)
       ∙ sym (t .same)

@@ -16,6 +16,7 @@ use Rattle.syllable.specs.declared.Syllable.the-variants.{Litc, Opdc, Desc, Ope
 use Rattle.syllable.specs.Decoding.{decodeOf}
 use Rattle.syllable.specs.Positions.{syllableOf}
 use Rattle.inspector.specs.Turns.{Turn, branches, communicates, neither, turnOf}
+use Rattle.word.specs.Choices.{if_then_else_}
 
 -- "items are literal k, number, place"; the top of a shape stands first.
 pub data Item : Type 0 where
@@ -51,7 +52,7 @@ writable sheet place = true
 abbrev pub calledOver : ℕ → Item → Shape → Left
 calledOver cell x [] = when (eqb cell 3) (x ∷ [])
 calledOver cell x (i ∷ xs) =
-    elim (eqb cell 3) [ true ↦ leaves (x ∷ i ∷ xs) | false ↦ when (eqb cell 4 && value i) (x ∷ xs) ]
+    if eqb cell 3 then leaves (x ∷ i ∷ xs) else when (eqb cell 4 && value i) (x ∷ xs)
 
 -- "over literals or numbers (all give numbers)": two items, one item.
 abbrev pub twoValues : Shape → Left
@@ -169,13 +170,13 @@ abbrev pub syllableAt : List ℕ → List ℕ → ℕ → Syllable
 syllableAt core sheet i = decodeOf (syllableOf (getD core (codeOf sheet + i / 4) 0) (i % 4))
 
 -- "Shapes start empty": the shape before syllable i.
-abbrev pub then : Left → (Shape → Left) → Left
-then (leaves xs) f = f xs
-then breaks f = breaks
+abbrev pub carried : Left → (Shape → Left) → Left
+carried (leaves xs) f = f xs
+carried breaks f = breaks
 
 unfoldable pub shapeAt : List ℕ → List ℕ → ℕ → Left
 shapeAt core sheet zero = leaves []
-shapeAt core sheet (suc i) = then (shapeAt core sheet i) (λ xs. within (roomOf sheet) (syllableLeft sheet (syllableAt core sheet i) xs))
+shapeAt core sheet (suc i) = carried (shapeAt core sheet i) (λ xs. within (roomOf sheet) (syllableLeft sheet (syllableAt core sheet i) xs))
 
 abbrev pub broken : Left → Bool
 broken (leaves xs) = false

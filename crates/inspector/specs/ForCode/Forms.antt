@@ -23,6 +23,7 @@ use Rattle.inspector.specs.Targets.{isEmpty, distance}
 use Rattle.machine.specs.Outcomes.{Res, on, halt}
 use Rattle.machine.specs.declared.outcome.Cause.the-variants.{Address}
 use Rattle.syllable.specs.Numbers.{operatorNumbers as numbersOf}
+use Rattle.word.specs.Choices.{if_then_else_}
 
 abbrev pub foundOf : Find → Found
 foundOf (At p) = at p
@@ -30,7 +31,7 @@ foundOf Nowhere = nowhere
 
 -- What cell c is after n cells from a on were given a kind.
 abbrev pub painted : ℕ → ℕ → ℕ → ℕ → ℕ → ℕ
-painted a n kind old c = elim (leb a c && ltb c (a + n)) [ true ↦ kind | false ↦ old ]
+painted a n kind old c = if leb a c && ltb c (a + n) then kind else old
 
 pub record Painted (a n kind : ℕ) (old new : List ℕ) : Type 0 where
   pub sized : length new ≡ 1024
@@ -49,7 +50,7 @@ clearOf sheet a n =
 
 -- An item as a number: a literal is itself, 1,024 a number, all else a place.
 unfoldable pub itemOf : ℕ → Item
-itemOf x = elim (ltb x 1024) [ true ↦ literal x | false ↦ elim (eqb x 1024) [ true ↦ number | false ↦ place ] ]
+itemOf x = if ltb x 1024 then literal x else if eqb x 1024 then number else place
 
 -- The shape of the h first items of a list, the last of them its top.
 unfoldable pub shapeOf : List ℕ → ℕ → Shape
@@ -94,7 +95,7 @@ pub record Became (room : ℕ) (items new : List ℕ) (r : Scanned) (left : Left
 
 -- The mark of a shape: 0 of an empty one, k + 1 of one with the literal k on top, 1,025 of the others. How far a branch on it goes.
 abbrev pub farOf : ℕ → ℕ
-farOf m = elim (ltb m 1025) [ true ↦ m - 1 | false ↦ 0 ]
+farOf m = if ltb m 1025 then m - 1 else 0
 
 pub record Mark (s : Left) (m : ℕ) : Type 0 where
   pub empty : eqb m 0 ≡ isEmpty s
