@@ -73,7 +73,7 @@ broken-found p (suc n) i q h l e f = by (eqb i q) refl (λ k. broken-found p n (
 kept-answer : (rs : List Rule) → AllKept rs → answerOf rs ≡ given 0 0
 kept-answer [] none = refl
 kept-answer (r ∷ rs) (kept k all) =
-    ap (λ (f : Found). blamed (r .number) f (answerOf rs)) (kept-found (r .broken) (r .places) 0 (λ j h l. k j (omega arith))) ∙ kept-answerOf rs all
+    ap (λ (f : Found). blamed (r .number) f (answerOf rs)) (kept-found (r .broken) (r .places) 0 (λ j h l. k j (omega arith))) ∙ kept-answer rs all
 
 blames-answer : {rs : List Rule} {n p : ℕ} → Blames rs n p → answerOf rs ≡ given n p
 blames-answer (this {r} {rs} {p} b) =

@@ -8,7 +8,8 @@ use borrow.Author.Tests.{ne-eqb}
 use lib.Dec.{eqb}
 use lib.ListN.{length, getD}
 use Rattle.sheet.specs.Sheets.{rOf, cellOf}
-use Rattle.inspector.specs.Cells.{plainWords, arrayFits, unfit}
+use Rattle.inspector.specs.Areas.{area}
+use Rattle.inspector.specs.Cells.{plainWords, arrayArea, arrayFits, unfit}
 use Rattle.inspector.specs.ForCode.Forms.{clearOf}
 use Rattle.word.specs.Arrays.{arrayIn}
 use Rattle.word.specs.Layout.{flagOf, sizeOf, addressOf}
@@ -53,16 +54,16 @@ joined : (a b c d e : Bool) → ((a && (b && c && d)) && e) ≡ (a && b && c && 
 joined true b c d e = refl
 joined false b c d e = refl
 
-fits-as : (core sheet : List ℕ) (d : ℕ) → ((arrayIn (length core) d && clearOf sheet (addressOf d) (sizeOf d)) && plainWords core (addressOf d) (sizeOf d)) ≡ arrayFits core sheet d
+fits-as : (core sheet : List ℕ) (d : ℕ) → ((arrayIn (length core) d && clearOf sheet (arrayArea d)) && plainWords core (addressOf d) (sizeOf d)) ≡ arrayFits core sheet d
 unfolding arrayFits
 fits-as core sheet d = joined (arrayIn (length core) d) _ _ _ (plainWords core (addressOf d) (sizeOf d))
 
 module _ (core sheet : List ℕ) (d a n : ℕ) {array clear both : Bool} (at : a ≡ addressOf d) (of : n ≡ sizeOf d)
-    (e : array ≡ arrayIn (length core) d) (f : clear ≡ clearOf sheet a n) (g : both ≡ (array && clear)) where
-  tested : both ≡ (arrayIn (length core) d && clearOf sheet (addressOf d) (sizeOf d))
+    (e : array ≡ arrayIn (length core) d) (f : clear ≡ clearOf sheet (area a n)) (g : both ≡ (array && clear)) where
+  tested : both ≡ (arrayIn (length core) d && clearOf sheet (arrayArea d))
   tested =
       g ∙ ap (λ (b : Bool). b && clear) e
-      ∙ ap (λ (b : Bool). arrayIn (length core) d && b) (f ∙ ap (λ (x : ℕ). clearOf sheet x n) at ∙ ap (clearOf sheet (addressOf d)) of)
+      ∙ ap (λ (b : Bool). arrayIn (length core) d && b) (f ∙ ap (λ (x : ℕ). clearOf sheet (area x n)) at ∙ ap (λ (x : ℕ). clearOf sheet (area (addressOf d) x)) of)
 
   pub array-yes : {r : Bool} → both ≡ true → r ≡ plainWords core a n → r ≡ arrayFits core sheet d
   array-yes t p =

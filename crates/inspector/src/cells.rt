@@ -10,8 +10,8 @@ ghost use mathlib.Core.Path.{_≡_};
 ghost use mathlib.Core.Bool.{not};
 ghost use Prim.Native.Nat.{_+_, _*_, _≤_};
 ghost use lib.ListN.{length, getD, set, replicate};
-ghost use Rattle.sheet.specs.Sheets.{entries, codeOf, codeWordsOf, sOf, roomOf, rOf, tableOf, cellOf};
-ghost use Rattle.inspector.specs.Areas.{meets as meetsOf};
+ghost use Rattle.sheet.specs.Sheets.{entries, tableOf, cellOf};
+ghost use Rattle.inspector.specs.Areas.{area, codeArea, stackArea, tableArea, meets as meetsOf};
 ghost use Rattle.inspector.specs.Cells.{plainWords, arrayFits, unfit as unfitOf};
 ghost use Rattle.inspector.specs.Verdicts.{lowest};
 ghost use Rattle.inspector.specs.ForCode.Forms.{foundOf, Painted, Cells, clearOf};
@@ -79,7 +79,7 @@ fn plain_words(core: &[u64], a: u16, n: u16) -> bool
 
 // The n words from a on meet no code word.
 fn clear_of_code(sheet: &[u8], a: u16, n: u16) -> bool
-    ensures { λ r. ⌜ r ≡ not (meetsOf a n (codeOf (now (sheet .entry))) (codeWordsOf (now (sheet .entry)))) ⌝ }
+    ensures { λ r. ⌜ r ≡ not (meetsOf (area a n) (codeArea (now (sheet .entry)))) ⌝ }
 {
     let code = first(sheet, 0);
     let words = count(sheet, 0);
@@ -88,7 +88,7 @@ fn clear_of_code(sheet: &[u8], a: u16, n: u16) -> bool
 
 // The n words from a on meet no word of the stack's room.
 fn clear_of_stack(sheet: &[u8], a: u16, n: u16) -> bool
-    ensures { λ r. ⌜ r ≡ not (meetsOf a n (sOf (now (sheet .entry)) + 1) (roomOf (now (sheet .entry)))) ⌝ }
+    ensures { λ r. ⌜ r ≡ not (meetsOf (area a n) (stackArea (now (sheet .entry)))) ⌝ }
 {
     let s = first(sheet, 1);
     let room = count(sheet, 1);
@@ -97,7 +97,7 @@ fn clear_of_stack(sheet: &[u8], a: u16, n: u16) -> bool
 
 // The n words from a on meet no cell of the table.
 fn clear_of_table(sheet: &[u8], a: u16, n: u16) -> bool
-    ensures { λ r. ⌜ r ≡ not (meetsOf a n (64 * rOf (now (sheet .entry))) (tableOf (now (sheet .entry)))) ⌝ }
+    ensures { λ r. ⌜ r ≡ not (meetsOf (area a n) (tableArea (now (sheet .entry)))) ⌝ }
 {
     let r = first(sheet, 2);
     let table = count(sheet, 2);
@@ -106,7 +106,7 @@ fn clear_of_table(sheet: &[u8], a: u16, n: u16) -> bool
 
 // The n words from a on meet none of the three stretches.
 fn clear(sheet: &[u8], a: u16, n: u16) -> bool
-    ensures { λ r. ⌜ r ≡ clearOf (now (sheet .entry)) a n ⌝ }
+    ensures { λ r. ⌜ r ≡ clearOf (now (sheet .entry)) (area a n) ⌝ }
 {
     let code = clear_of_code(sheet, a, n);
     let stack = clear_of_stack(sheet, a, n);

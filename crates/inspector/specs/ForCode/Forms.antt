@@ -15,8 +15,8 @@ use Rattle.inspector.specs.declared.shapes.Effect.the-variants.{Drops, P
 use Rattle.inspector.specs.declared.shapes.Scanned.{Scanned}
 use Rattle.inspector.specs.declared.shapes.Scanned.the-variants.{Height, Broken}
 use Rattle.inspector.specs.Verdicts.{Found, at, nowhere, lowest, answerOf}
-use Rattle.sheet.specs.Sheets.{entries, codeOf, codeWordsOf, sOf, roomOf, rOf, tableOf, cellOf}
-use Rattle.inspector.specs.Areas.{meets}
+use Rattle.sheet.specs.Sheets.{entries, codeOf, codeWordsOf, roomOf, tableOf, cellOf}
+use Rattle.inspector.specs.Areas.{Area, codeArea, stackArea, tableArea, meets}
 use Rattle.inspector.specs.Rules.{rules}
 use Rattle.inspector.specs.Scan.{Item, literal, number, place, Shape, Left, leaves, breaks, exchanged, writable, within, shapeAt, breaksAt}
 use Rattle.inspector.specs.Targets.{isEmpty, distance}
@@ -42,11 +42,9 @@ pub record Cells (cells sheet : List ℕ) : Type 0 where
   pub sized : length cells ≡ 1024
   pub cell : (c : ℕ) → c < 1024 → getD cells c 0 ≡ cellOf sheet c
 
--- "meeting none of those three": the n words from a on.
-abbrev pub clearOf : List ℕ → ℕ → ℕ → Bool
-clearOf sheet a n =
-    not (meets a n (codeOf sheet) (codeWordsOf sheet)) && not (meets a n (sOf sheet + 1) (roomOf sheet))
-    && not (meets a n (64 * rOf sheet) (tableOf sheet))
+-- "meeting none of those three"
+abbrev pub clearOf : List ℕ → Area → Bool
+clearOf sheet x = not (meets x (codeArea sheet)) && not (meets x (stackArea sheet)) && not (meets x (tableArea sheet))
 
 -- An item as a number: a literal is itself, 1,024 a number, all else a place.
 unfoldable pub itemOf : ℕ → Item
