@@ -10,8 +10,8 @@ use Rattle.word.specs.Field.{bit}
 use Rattle.word.specs.Arrays.{arrayIn}
 use Rattle.word.specs.Layout.{flagOf, presenceOf, sizeOf, addressOf}
 use Rattle.sheet.specs.Sheets.{codeOf, codeWordsOf, sOf, roomOf, rOf, tableOf}
-use Rattle.inspector.specs.Areas.{codeArea, stackArea, tableArea, meets}
-use Rattle.inspector.specs.Cells.{plainWords, arrayArea, arrayFits}
+use Rattle.inspector.specs.Areas.{area, codeArea, stackArea, tableArea, meets}
+use Rattle.inspector.specs.Cells.{plainWords, arrayFits}
 use Rattle.demands.proofs.Tests.{shows-and, shows-lt, shows-le, shows, shows-not}
 use Rattle.demands.proofs.Records.{Apart, apart}
 
@@ -45,16 +45,17 @@ array-in len d = shows-and (shows-and (shows-and (shows-and (shows (flagOf d)) (
 pub array-fit : (core sheet : List ℕ) (d : ℕ) → arrayFits core sheet d ≡ true → ArrayFit core sheet d
 unfolding arrayFits
 array-fit core sheet d e =
-    let t = shows-and (shows-and (shows-and (shows-and (shows (arrayIn (length core) d)) (shows-not (meets (arrayArea d) (codeArea sheet)))) (shows-not (meets (arrayArea d) (stackArea sheet)))) (shows-not (meets (arrayArea d) (tableArea sheet)))) (shows (plainWords core (addressOf d) (sizeOf d))) e in
-    let u = array-in (length core) d (t .0 .0 .0 .0) in
+    let x = area (addressOf d) (sizeOf d) in
+    let t = shows-and (shows-and (shows (arrayIn (length core) d)) (shows-and (shows-and (shows-not (meets x (codeArea sheet))) (shows-not (meets x (stackArea sheet)))) (shows-not (meets x (tableArea sheet))))) (shows (plainWords core (addressOf d) (sizeOf d))) e in
+    let u = array-in (length core) d (t .0 .0) in
     record {
       flag = u .0 .0 .0 .0;
       second = u .0 .0 .0 .1;
       presence = u .0 .0 .1;
       size = u .0 .1;
       area = u .1;
-      off-code = apart _ _ _ _ (t .0 .0 .0 .1);
-      off-stack = apart _ _ _ _ (t .0 .0 .1);
-      off-table = apart _ _ _ _ (t .0 .1);
+      off-code = apart _ _ _ _ (t .0 .1 .0 .0);
+      off-stack = apart _ _ _ _ (t .0 .1 .0 .1);
+      off-table = apart _ _ _ _ (t .0 .1 .1);
       plain = plain-words core (addressOf d) (sizeOf d) (t .1);
     }

@@ -1,6 +1,6 @@
--- Rule 32: the three stretches of the sheet.
+-- The three areas that the sheet names, and rule 32.
 use Prim.Native.Nat.{ℕ, zero, suc, _+_}
-use mathlib.Core.Bool.{Bool, _&&_, _||_}
+use mathlib.Core.Bool.{Bool, not, _&&_, _||_}
 use mathlib.Core.List.{List}
 use lib.Dec.{ltb}
 use lib.ListN.{length}
@@ -40,3 +40,7 @@ astray core sheet zero = outsideCore core (codeArea sheet)
 astray core sheet (suc zero) = outsideCore core (stackArea sheet) || meets (stackArea sheet) (codeArea sheet)
 astray core sheet (suc (suc i)) =
     outsideCore core (tableArea sheet) || meets (tableArea sheet) (codeArea sheet) || meets (tableArea sheet) (stackArea sheet)
+
+-- "meeting none of those three"
+abbrev pub clearOf : List ℕ → Area → Bool
+clearOf sheet x = not (meets x (codeArea sheet)) && not (meets x (stackArea sheet)) && not (meets x (tableArea sheet))

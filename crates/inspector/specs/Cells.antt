@@ -5,7 +5,7 @@ use mathlib.Core.List.{List}
 use lib.Dec.{eqb}
 use lib.ListN.{length, getD}
 use Rattle.sheet.specs.Sheets.{rOf, cellOf}
-use Rattle.inspector.specs.Areas.{Area, area, codeArea, stackArea, tableArea, meets}
+use Rattle.inspector.specs.Areas.{area, clearOf}
 use Rattle.word.specs.Arrays.{arrayIn}
 use Rattle.word.specs.Layout.{flagOf, sizeOf, addressOf}
 use Rattle.word.specs.Addresses.{cellAddress}
@@ -15,16 +15,10 @@ unfoldable pub plainWords : List ℕ → ℕ → ℕ → Bool
 plainWords core a zero = true
 plainWords core a (suc n) = not (flagOf (getD core a 0)) && plainWords core (suc a) n
 
-abbrev pub arrayArea : ℕ → Area
-arrayArea d = area (addressOf d) (sizeOf d)
-
 -- "an array cell holds a present data descriptor, size over 0, area in core, meeting none of those three, all its words flag off"
 unfoldable pub arrayFits : List ℕ → List ℕ → ℕ → Bool
 arrayFits core sheet d =
-    arrayIn (length core) d && not (meets (arrayArea d) (codeArea sheet))
-    && not (meets (arrayArea d) (stackArea sheet))
-    && not (meets (arrayArea d) (tableArea sheet))
-    && plainWords core (addressOf d) (sizeOf d)
+    arrayIn (length core) d && clearOf sheet (area (addressOf d) (sizeOf d)) && plainWords core (addressOf d) (sizeOf d)
 
 -- "33, lowest named cell unfit: a number cell has its flag off"
 unfoldable pub unfit : List ℕ → List ℕ → ℕ → Bool

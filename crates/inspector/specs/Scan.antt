@@ -1,8 +1,8 @@
 -- Rule 34: the scan, an abstract run over shapes.
-use Prim.Native.Nat.{ℕ, zero, suc, _+_, _-_, _*_, _/_, _%_}
+use Prim.Native.Nat.{ℕ, zero, suc, _+_, _*_, _/_, _%_}
 use mathlib.Core.Bool.{Bool, true, false, not, _&&_, _||_}
 use mathlib.Core.List.{List, [], _∷_}
-use lib.Dec.{eqb, ltb, leb}
+use lib.Dec.{eqb, leb}
 use lib.ListN.{length, getD}
 use Rattle.sheet.specs.Sheets.{codeOf, codeWordsOf, roomOf, cellOf}
 use Rattle.syllable.specs.declared.Logic.{Logic as LogicGroup}

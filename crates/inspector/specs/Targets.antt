@@ -1,10 +1,10 @@
 -- Rule 35: the branches' targets.
-use Prim.Native.Nat.{ℕ, suc, _+_, _-_, _*_}
-use mathlib.Core.Bool.{Bool, true, false, not, _&&_, _||_}
+use Prim.Native.Nat.{ℕ, _+_, _-_, _*_}
+use mathlib.Core.Bool.{Bool, true, false, not, _&&_}
 use mathlib.Core.List.{List, [], _∷_}
 use lib.Dec.{ltb, leb}
 use Rattle.sheet.specs.Sheets.{codeOf, codeWordsOf}
-use Rattle.inspector.specs.Scan.{Item, literal, number, place, Shape, Left, leaves, breaks, syllableAt, shapeAt}
+use Rattle.inspector.specs.Scan.{literal, number, place, Left, leaves, breaks, syllableAt, shapeAt}
 use Rattle.machine.specs.Outcomes.{Res, on, halt}
 use Rattle.machine.specs.Branches.{landingOf}
 use Rattle.inspector.specs.Turns.{Turn, branches, communicates, neither, turnOf}

@@ -11,10 +11,10 @@ ghost use mathlib.Core.Bool.{not};
 ghost use Prim.Native.Nat.{_+_, _*_, _≤_};
 ghost use lib.ListN.{length, getD, set, replicate};
 ghost use Rattle.sheet.specs.Sheets.{entries, tableOf, cellOf};
-ghost use Rattle.inspector.specs.Areas.{area, codeArea, stackArea, tableArea, meets as meetsOf};
+ghost use Rattle.inspector.specs.Areas.{area, codeArea, stackArea, tableArea, meets as meetsOf, clearOf};
 ghost use Rattle.inspector.specs.Cells.{plainWords, arrayFits, unfit as unfitOf};
 ghost use Rattle.inspector.specs.Verdicts.{lowest};
-ghost use Rattle.inspector.specs.ForCode.Forms.{foundOf, Painted, Cells, clearOf};
+ghost use Rattle.inspector.specs.ForCode.Forms.{foundOf, Painted, Cells};
 
 // The word at an address, and 0 outside core.
 pub fn word_at(core: &[u64], at: usize) -> u64

@@ -1,7 +1,7 @@
 -- How the code holds what the definitions speak of: findings, the kinds of the cells, items, shapes and what is done to them.
 use Prim.Native.Nat.{ℕ, zero, suc, _+_, _-_, _*_, _≤_, _<_}
 use mathlib.Core.Path.{_≡_}
-use mathlib.Core.Bool.{Bool, true, false, not, _&&_}
+use mathlib.Core.Bool.{Bool, true, false, _&&_}
 use mathlib.Core.List.{List, [], _∷_}
 use lib.Dec.{eqb, ltb, leb}
 use lib.ListN.{length, getD, drop}
@@ -16,7 +16,6 @@ use Rattle.inspector.specs.declared.shapes.Scanned.{Scanned}
 use Rattle.inspector.specs.declared.shapes.Scanned.the-variants.{Height, Broken}
 use Rattle.inspector.specs.Verdicts.{Found, at, nowhere, lowest, answerOf}
 use Rattle.sheet.specs.Sheets.{entries, codeOf, codeWordsOf, roomOf, tableOf, cellOf}
-use Rattle.inspector.specs.Areas.{Area, codeArea, stackArea, tableArea, meets}
 use Rattle.inspector.specs.Rules.{rules}
 use Rattle.inspector.specs.Scan.{Item, literal, number, place, Shape, Left, leaves, breaks, exchanged, writable, within, shapeAt, breaksAt}
 use Rattle.inspector.specs.Targets.{isEmpty, distance}
@@ -41,10 +40,6 @@ pub record Painted (a n kind : ℕ) (old new : List ℕ) : Type 0 where
 pub record Cells (cells sheet : List ℕ) : Type 0 where
   pub sized : length cells ≡ 1024
   pub cell : (c : ℕ) → c < 1024 → getD cells c 0 ≡ cellOf sheet c
-
--- "meeting none of those three"
-abbrev pub clearOf : List ℕ → Area → Bool
-clearOf sheet x = not (meets x (codeArea sheet)) && not (meets x (stackArea sheet)) && not (meets x (tableArea sheet))
 
 -- An item as a number: a literal is itself, 1,024 a number, all else a place.
 unfoldable pub itemOf : ℕ → Item
