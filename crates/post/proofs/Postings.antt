@@ -57,7 +57,7 @@ module _ (core sheet : List ℕ) (budget : ℕ) {v : Verdict} (e : v ≡ verdict
   run-start : v .number ≡ 0 → budget ≤ 1000000 → runOf core (startOf core sheet .regs) budget ≡ runFrom budget (startOf core sheet)
   unfolding runOf if_then_else_
   run-start z h =
-      rw (eq-eqb (refusalOf core (startOf core sheet .regs)) 0 (start-zero-given core sheet (zero-given core sheet (ap (λ (x : Verdict). x .number) (sym e) ∙ z))), le-leb budget 1000000 h)
+      rw (eq-eqb (refusalOf core (startOf core sheet .regs)) 0 (start-passes core sheet (zero-given core sheet (ap (λ (x : Verdict). x .number) (sym e) ∙ z))), le-leb budget 1000000 h)
 
   pub post-ran : {g : Registers} {r : Run} → g ≡ startOf core sheet .regs → v .number ≡ 0 → budget ≤ 1000000 → r ≡ runOf core g budget → ran r ≡ postOf core sheet budget
   unfolding postOf
@@ -78,7 +78,7 @@ fit core sheet budget true v p q = cut (leb budget 1000000) refl
     cut true e z =
         let number : verdictOf core sheet .number ≡ 0 = ap (λ (x : Verdict). x .number) (p refl) in
         let same : runOf core (startOf core sheet .regs) budget ≡ runFrom budget (startOf core sheet) = run-start core sheet budget refl number (leb-true budget 1000000 e) in
-        ap (λ (r : Run). refusalOf (r .core) (r .regs)) (sym same) ∙ run-fit core (startOf core sheet .regs) budget (start-zero-given core sheet (p refl))
+        ap (λ (r : Run). refusalOf (r .core) (r .regs)) (sym same) ∙ run-fit core (startOf core sheet .regs) budget (start-passes core sheet (p refl))
     cut false e z = absurd (omega arith)
 fit core sheet budget false v p q = λ z. absurd (q refl z)
 
