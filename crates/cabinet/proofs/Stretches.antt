@@ -9,7 +9,7 @@ use lib.Dec.{eqb, ltb, leb}
 use lib.ListN.{length, take}
 use Rattle.word.specs.Core.{lengthFits, wordsFit}
 use Rattle.word.specs.Layout.{sizeOf, addressOf}
-use Rattle.word.specs.Choices.{if_then_else_, choose}
+use Rattle.word.specs.Choices.{if_then_else_}
 use Rattle.handout.specs.HandOut.{cellWord, handOutNumber, stretchStart, stretchCount}
 use Rattle.tape.specs.Files.{wordsOf, FileRead}
 use Rattle.cabinet.specs.Lengths.{coreNumberOf}
@@ -20,13 +20,14 @@ use Rattle.cabinet.proofs.Rooms.{core-part, core-read}
 -- ---- from 16 bits
 
 -- An R or a cell out of range gives no words, and the number does not look at it further.
-out-of-range : (words : List ℕ) (r cell : ℕ) → (ltb r 512 && ltb cell 1024) ≡ false
-    → handedOf words r cell ≡ handed (choose (lengthFits words) (choose (wordsFit words) 3 2) 1) 0 0
-unfolding handedOf handOutNumber stretchStart stretchCount
+abbrev early : Bool → Bool → ℕ
+early a b = if a then (if b then 3 else 2) else 1
+
+out-of-range : (words : List ℕ) (r cell : ℕ) → (ltb r 512 && ltb cell 1024) ≡ false → handedOf words r cell ≡ handed (early (lengthFits words) (wordsFit words)) 0 0
+unfolding handedOf handOutNumber stretchStart stretchCount if_then_else_
 out-of-range words r cell e = rw e (by (lengthFits words) (wordsFit words))
   where
-    by : (a b : Bool) → handed (choose a (choose b 3 2) 1) (choose (eqb (choose a (choose b 3 2) 1) 0) (addressOf (cellWord words r cell)) 0) (choose (eqb (choose a (choose b 3 2) 1) 0) (sizeOf (cellWord words r cell)) 0)
-        ≡ handed (choose a (choose b 3 2) 1) 0 0
+    by : (a b : Bool) → handed (early a b) (if eqb (early a b) 0 then addressOf (cellWord words r cell) else 0) (if eqb (early a b) 0 then sizeOf (cellWord words r cell) else 0) ≡ handed (early a b) 0 0
     by true true = refl
     by true false = refl
     by false b = refl

@@ -10,13 +10,15 @@ use lib.ListN.{length, getD}
 use Rattle.word.specs.Layout.{flagOf}
 use Rattle.word.specs.Core.{lengthFits, wordsFit}
 use Rattle.sheet.specs.Sheets.{entryAt, entries, codeOf, codeWordsOf, sOf, roomOf, rOf, tableOf, cellIn, cellOf}
-use Rattle.inspector.specs.Areas.{meets, astray}
+use Rattle.inspector.specs.Areas.{codeArea, stackArea, tableArea, meets, astray}
 use Rattle.inspector.specs.Cells.{arrayFits, unfit}
+use Rattle.inspector.specs.Turns.{turnOf}
 use Rattle.inspector.specs.Scan.{shapeAt, broken, syllableAt, closes, breaksAt}
 use Rattle.inspector.specs.Targets.{missesTarget}
 use Rattle.inspector.specs.Verdicts.{given, verdictOf}
-use Rattle.demands.specs.Rules.{rules, AllKept, none, kept}
-use Rattle.demands.proofs.Tests.{shows-and, shows-lt, shows-le, shows-eq, shows, denies-or, denies-and, denies-lt, denies-le, denies, denies-not}
+use Rattle.inspector.specs.Rules.{rules}
+use Rattle.demands.specs.Rules.{AllKept, none, kept}
+use Rattle.demands.proofs.Tests.{shows-and, shows-lt, shows-le, shows-eq, shows, denies-or, denies-and, denies-lt, denies, denies-not}
 use Rattle.demands.proofs.Exact.{zero-kept}
 use Rattle.demands.proofs.Records.{apart, Range, range, cells-in, cell-in}
 use Rattle.demands.proofs.Arrays.{ArrayFit, array-fit}
@@ -54,21 +56,21 @@ module _ (core sheet : List ℕ) where
   unfolding astray
   code-stays e = denies-lt (length core) (codeOf sheet + codeWordsOf sheet) e
 
-  stack-stays : astray core sheet 1 ≡ false → (sOf sheet + roomOf sheet < length core) × (meets (sOf sheet + 1) (roomOf sheet) (codeOf sheet) (codeWordsOf sheet) ≡ false)
+  stack-stays : astray core sheet 1 ≡ false → (sOf sheet + 1 + roomOf sheet ≤ length core) × (meets (stackArea sheet) (codeArea sheet) ≡ false)
   unfolding astray
-  stack-stays e = denies-or (denies-le (length core) (sOf sheet + roomOf sheet)) (denies (meets (sOf sheet + 1) (roomOf sheet) (codeOf sheet) (codeWordsOf sheet))) e
+  stack-stays e = denies-or (denies-lt (length core) (sOf sheet + 1 + roomOf sheet)) (denies (meets (stackArea sheet) (codeArea sheet))) e
 
   abbrev TableStays : Type 0
   TableStays =
-      ((64 * rOf sheet + tableOf sheet ≤ length core) × (meets (64 * rOf sheet) (tableOf sheet) (codeOf sheet) (codeWordsOf sheet) ≡ false))
-      × (meets (64 * rOf sheet) (tableOf sheet) (sOf sheet + 1) (roomOf sheet) ≡ false)
+      ((64 * rOf sheet + tableOf sheet ≤ length core) × (meets (tableArea sheet) (codeArea sheet) ≡ false))
+      × (meets (tableArea sheet) (stackArea sheet) ≡ false)
 
   table-stays : astray core sheet 2 ≡ false → TableStays
   unfolding astray
   table-stays e =
       denies-or
-      (denies-or (denies-lt (length core) (64 * rOf sheet + tableOf sheet)) (denies (meets (64 * rOf sheet) (tableOf sheet) (codeOf sheet) (codeWordsOf sheet))))
-      (denies (meets (64 * rOf sheet) (tableOf sheet) (sOf sheet + 1) (roomOf sheet))) e
+      (denies-or (denies-lt (length core) (64 * rOf sheet + tableOf sheet)) (denies (meets (tableArea sheet) (codeArea sheet))))
+      (denies (meets (tableArea sheet) (stackArea sheet))) e
 
   number-fit : (c : ℕ) → unfit core sheet c ≡ false → cellOf sheet c ≡ 3 → flagOf (getD core (64 * rOf sheet + c) 0) ≡ false
   unfolding unfit
@@ -86,12 +88,12 @@ module _ (core sheet : List ℕ) where
   scanned : (i : ℕ) → breaksAt core sheet i ≡ false → broken (shapeAt core sheet (suc i)) ≡ false
   unfolding breaksAt
   scanned i e =
-      denies-or (denies (broken (shapeAt core sheet (suc i)))) (denies (eqb (suc i) (4 * codeWordsOf sheet) && not (closes (syllableAt core sheet i)))) e .0
+      denies-or (denies (broken (shapeAt core sheet (suc i)))) (denies (eqb (suc i) (4 * codeWordsOf sheet) && not (closes (turnOf (syllableAt core sheet i))))) e .0
 
-  closed : (i : ℕ) → breaksAt core sheet i ≡ false → suc i ≡ 4 * codeWordsOf sheet → closes (syllableAt core sheet i) ≡ true
+  closed : (i : ℕ) → breaksAt core sheet i ≡ false → suc i ≡ 4 * codeWordsOf sheet → closes (turnOf (syllableAt core sheet i)) ≡ true
   unfolding breaksAt
   closed i e h =
-      denies-or (denies (broken (shapeAt core sheet (suc i)))) (denies-and (eq-eqb (suc i) (4 * codeWordsOf sheet) h) (denies-not (closes (syllableAt core sheet i)))) e .1
+      denies-or (denies (broken (shapeAt core sheet (suc i)))) (denies-and (eq-eqb (suc i) (4 * codeWordsOf sheet) h) (denies-not (closes (turnOf (syllableAt core sheet i))))) e .1
 
   cell-low : (n : ℕ) → ((j : ℕ) → 3 ≤ j → j < 3 + (n - 3) → recordGood sheet j ≡ true) → (c k : ℕ) → cellIn sheet (n - 3) 3 c ≡ suc k → c < tableOf sheet
   cell-low n f c k e = cell-in sheet (tableOf sheet) (n - 3) 3 c k (λ j p q. good j p (f j p q)) e
@@ -124,7 +126,7 @@ module _ (core sheet : List ℕ) where
         words = words;
         some = code .least;
         code-in = code-stays (near 0 (omega arith));
-        stack-in = stack .0;
+        stack-in = omega (arith, stack .0);
         stack-code = apart _ _ _ _ (stack .1);
         page = table .least;
         table-in = far .0 .0;

@@ -7,9 +7,10 @@ use native.Mathlib.Omega.{arith}
 use native.Mathlib.Decide.{ℕ-discrete}
 use lib.ListN.{length, getD}
 use Rattle.word.specs.Field.{bit}
+use Rattle.word.specs.Arrays.{arrayIn}
 use Rattle.word.specs.Layout.{flagOf, presenceOf, sizeOf, addressOf}
 use Rattle.sheet.specs.Sheets.{codeOf, codeWordsOf, sOf, roomOf, rOf, tableOf}
-use Rattle.inspector.specs.Areas.{meets}
+use Rattle.inspector.specs.Areas.{area, codeArea, stackArea, tableArea, meets}
 use Rattle.inspector.specs.Cells.{plainWords, arrayFits}
 use Rattle.demands.proofs.Tests.{shows-and, shows-lt, shows-le, shows, shows-not}
 use Rattle.demands.proofs.Records.{Apart, apart}
@@ -37,18 +38,24 @@ plain-words core a (suc n) e j h l =
     let t = shows-and (shows-not (flagOf (getD core a 0))) (shows (plainWords core (suc a) n)) e in
     here core a j (ℕ-discrete a j) (t .0) (λ q. plain-words core (suc a) n (t .1) j (omega arith) (omega arith))
 
+array-in : (len d : ℕ) → arrayIn len d ≡ true → ((((flagOf d ≡ true) × (bit d 1 ≡ false)) × (presenceOf d ≡ true)) × (0 < sizeOf d)) × (addressOf d + sizeOf d ≤ len)
+unfolding arrayIn
+array-in len d = shows-and (shows-and (shows-and (shows-and (shows (flagOf d)) (shows-not (bit d 1))) (shows (presenceOf d))) (shows-lt 0 (sizeOf d))) (shows-le (addressOf d + sizeOf d) len)
+
 pub array-fit : (core sheet : List ℕ) (d : ℕ) → arrayFits core sheet d ≡ true → ArrayFit core sheet d
 unfolding arrayFits
 array-fit core sheet d e =
-    let t = shows-and (shows-and (shows-and (shows-and (shows-and (shows-and (shows-and (shows-and (shows (flagOf d)) (shows-not (bit d 1))) (shows (presenceOf d))) (shows-lt 0 (sizeOf d))) (shows-le (addressOf d + sizeOf d) (length core))) (shows-not (meets (addressOf d) (sizeOf d) (codeOf sheet) (codeWordsOf sheet)))) (shows-not (meets (addressOf d) (sizeOf d) (sOf sheet + 1) (roomOf sheet)))) (shows-not (meets (addressOf d) (sizeOf d) (64 * rOf sheet) (tableOf sheet)))) (shows (plainWords core (addressOf d) (sizeOf d))) e in
+    let x = area (addressOf d) (sizeOf d) in
+    let t = shows-and (shows-and (shows (arrayIn (length core) d)) (shows-and (shows-and (shows-not (meets x (codeArea sheet))) (shows-not (meets x (stackArea sheet)))) (shows-not (meets x (tableArea sheet))))) (shows (plainWords core (addressOf d) (sizeOf d))) e in
+    let u = array-in (length core) d (t .0 .0) in
     record {
-      flag = t .0 .0 .0 .0 .0 .0 .0 .0;
-      second = t .0 .0 .0 .0 .0 .0 .0 .1;
-      presence = t .0 .0 .0 .0 .0 .0 .1;
-      size = t .0 .0 .0 .0 .0 .1;
-      area = t .0 .0 .0 .0 .1;
-      off-code = apart _ _ _ _ (t .0 .0 .0 .1);
-      off-stack = apart _ _ _ _ (t .0 .0 .1);
-      off-table = apart _ _ _ _ (t .0 .1);
+      flag = u .0 .0 .0 .0;
+      second = u .0 .0 .0 .1;
+      presence = u .0 .0 .1;
+      size = u .0 .1;
+      area = u .1;
+      off-code = apart _ _ _ _ (t .0 .1 .0 .0);
+      off-stack = apart _ _ _ _ (t .0 .1 .0 .1);
+      off-table = apart _ _ _ _ (t .0 .1 .1);
       plain = plain-words core (addressOf d) (sizeOf d) (t .1);
     }

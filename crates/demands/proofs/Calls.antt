@@ -169,7 +169,8 @@ module _ (core sheet : List ℕ) (ok : Passed core sheet) (p : ℕ) where
       (λ u i. safe-bind (address-safe core sheet ok p here u k (i .kept) (i .set) (omega (arith, ok .cell k 3 c, ok .table-in)))
       (λ m e. array-call desc k m u y xs c e i (v .room)))
 
-  over : (desc : Bool) (here k : ℕ) (st : State) (y : Item) (xs : Shape) (b : Bool) → eqb (cellOf sheet k) 3 ≡ b → At core sheet p (y ∷ xs) st → Does core sheet p (elim b [ true ↦ leaves (called desc ∷ y ∷ xs) | false ↦ when (eqb (cellOf sheet k) 4 && value y) (called desc ∷ xs) ]) (callKOf desc here st k)
+  over : (desc : Bool) (here k : ℕ) (st : State) (y : Item) (xs : Shape) (b : Bool) → eqb (cellOf sheet k) 3 ≡ b → At core sheet p (y ∷ xs) st → Does core sheet p (if b then leaves (called desc ∷ y ∷ xs) else when (eqb (cellOf sheet k) 4 && value y) (called desc ∷ xs)) (callKOf desc here st k)
+  unfolding if_then_else_
   over desc here k st y xs true e v = number-does desc here k st (y ∷ xs) (eqb-true _ _ e) v
   over desc here k st y xs false e v =
       does-when core sheet p (eqb (cellOf sheet k) 4 && value y)

@@ -8,6 +8,7 @@ use native.Mathlib.Omega.{arith}
 use native.Mathlib.Decide.{ℕ-discrete}
 use lib.ListN.{length, getD}
 use Rattle.word.specs.Core.{lengthFits, wordsFit}
+use Rattle.word.specs.Arrays.{arrayIn}
 use Rattle.machine.specs.States.{State}
 use Rattle.machine.specs.Steps.{Ended, next, communicated, stopped, executeOf, refusalOf}
 use Rattle.machine.specs.Runs.{Run}
@@ -94,11 +95,11 @@ module _ (core sheet : List ℕ) where
 -- ---- the sample, computed
 
 sample-passes : verdictOf sampleCore (sampleSheet 2) ≡ given 0 0
-unfolding verdictOf lengthFits wordsFit sheetFits recordGood astray unfit cellOf arrayFits plainWords breaksAt shapeAt missesTarget landingOf if_then_else_ decodeOf syllableOf
+unfolding verdictOf lengthFits wordsFit sheetFits recordGood astray unfit cellOf arrayFits arrayIn plainWords breaksAt shapeAt missesTarget landingOf if_then_else_ decodeOf syllableOf
 sample-passes = refl
 
 sample-refused : verdictOf sampleCore (sampleSheet 1) ≡ given 34 2
-unfolding verdictOf lengthFits wordsFit sheetFits recordGood astray unfit cellOf arrayFits plainWords breaksAt shapeAt missesTarget landingOf if_then_else_ decodeOf syllableOf
+unfolding verdictOf lengthFits wordsFit sheetFits recordGood astray unfit cellOf arrayFits arrayIn plainWords breaksAt shapeAt missesTarget landingOf if_then_else_ decodeOf syllableOf
 sample-refused = refl
 
 pub demand3 : Demand3

@@ -14,7 +14,8 @@ use Rattle.machine.specs.Steps.{Ended, next, communicated, stopped, plain, last
 use Rattle.syllable.specs.declared.Syllable.{Syllable}
 use Rattle.syllable.specs.Positions.{nextOf}
 use Rattle.sheet.specs.Sheets.{codeOf, codeWordsOf, roomOf}
-use Rattle.inspector.specs.Scan.{Shape, Left, leaves, breaks, when, within, then, broken, syllableAt, syllableLeft, shapeAt, closes}
+use Rattle.inspector.specs.Turns.{turnOf}
+use Rattle.inspector.specs.Scan.{Shape, Left, leaves, breaks, when, within, carried, broken, syllableAt, syllableLeft, shapeAt, closes}
 use Rattle.inspector.specs.Targets.{isEmpty, lands}
 use Rattle.demands.specs.Stays.{Allowed}
 use Rattle.demands.proofs.Tests.{shows-and, shows, shows-lt, shows-le}
@@ -72,18 +73,18 @@ module _ (core sheet : List ℕ) (ok : Passed core sheet) where
     pub shape-next : shapeAt core sheet (suc i) ≡ within (roomOf sheet) (syllableLeft sheet x xs)
     unfolding shapeAt
     shape-next =
-        ap (λ (o : Left). then o (λ xs. within (roomOf sheet) (syllableLeft sheet (syllableAt core sheet i) xs))) shape
+        ap (λ (o : Left). carried o (λ xs. within (roomOf sheet) (syllableLeft sheet (syllableAt core sheet i) xs))) shape
         ∙ ap (λ (y : Syllable). within (roomOf sheet) (syllableLeft sheet y xs)) q
 
     pub left-next : broken (within (roomOf sheet) (syllableLeft sheet x xs)) ≡ false
     left-next = subst (λ (o : Left). broken o ≡ false) shape-next (ok .scan i h)
 
     -- A syllable that does not close is not the last.
-    pub not-last : closes x ≡ false → suc i < 4 * codeWordsOf sheet
+    pub not-last : closes (turnOf x) ≡ false → suc i < 4 * codeWordsOf sheet
     not-last e = more (ℕ-discrete (suc i) (4 * codeWordsOf sheet))
       where
         more : Dec (suc i ≡ 4 * codeWordsOf sheet) → suc i < 4 * codeWordsOf sheet
-        more (yes s) = absurd (false≢true (sym e ∙ subst (λ (y : Syllable). closes y ≡ true) q (ok .last i s)))
+        more (yes s) = absurd (false≢true (sym e ∙ subst (λ (y : Syllable). closes (turnOf y) ≡ true) q (ok .last i s)))
         more (no s) = omega arith
 
     next-place : suc i < 4 * codeWordsOf sheet → nextOf (4 * codeOf sheet + i) ≡ 4 * codeOf sheet + suc i
@@ -105,7 +106,7 @@ module _ (core sheet : List ℕ) (ok : Passed core sheet) where
     does-good breaks e b l r d = absurd (true≢false b)
 
     -- A syllable that is no branch and does not close.
-    pub plain-good : (r : Res State) → closes x ≡ false → Does core sheet (nextOf (4 * codeOf sheet + i)) (syllableLeft sheet x xs) r → Good core sheet (plain r)
+    pub plain-good : (r : Res State) → closes (turnOf x) ≡ false → Does core sheet (nextOf (4 * codeOf sheet + i)) (syllableLeft sheet x xs) r → Good core sheet (plain r)
     plain-good r c d = does-good (syllableLeft sheet x xs) refl left-next (not-last c) r d
 
   pub always-good : {r : Res State} → Safe (Landed core sheet) r → Good core sheet (plain r)

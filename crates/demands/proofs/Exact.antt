@@ -2,34 +2,16 @@
 -- place, and no earlier rule is broken anywhere.
 use Prim.Native.Nat.{ℕ, zero, suc, _+_, _≤_, _<_}
 use mathlib.Core.Path.{_≡_, refl, sym, _∙_, ap, subst}
-use mathlib.Core.Bool.{Bool, true, false, not}
+use mathlib.Core.Bool.{Bool, true, false}
 use mathlib.Core.List.{List, [], _∷_}
 use native.Mathlib.Omega.{arith}
 use borrow.Author.Tests.{eqb-true, eqb-false}
 use lib.Dec.{eqb}
 use Rattle.inspector.specs.declared.verdict.Verdict.{Verdict}
-use Rattle.inspector.specs.Records.{sheetFits}
-use Rattle.inspector.specs.Verdicts.{Found, at, nowhere, lowest, given, blamed, refused, verdictOf}
-use Rattle.word.specs.Core.{lengthFits, wordsFit}
-use Rattle.demands.specs.Rules.{Rule, rules, Kept, BrokenAt, AllKept, none, kept, Blames, this, later}
-use Rattle.demands.proofs.Lowest.{lowest-none}
-
-abbrev answer : List Rule → Verdict
-answer [] = given 0 0
-answer (r ∷ rs) = blamed (r .number) (lowest (r .broken) (r .places) 0) (answer rs)
-
--- A rule of one place.
-single : (n : ℕ) (b : Bool) (rest : Verdict) → refused n b rest ≡ blamed n (lowest (λ (i : ℕ). not b) 1 0) rest
-single n true rest = refl
-single n false rest = refl
-
-as-rules : (core sheet : List ℕ) → verdictOf core sheet ≡ answer (rules core sheet)
-unfolding verdictOf
-as-rules core sheet =
-    single 1 (lengthFits core) _
-    ∙ ap (blamed 1 (lowest (λ (i : ℕ). not (lengthFits core)) 1 0)) (single 2 (wordsFit core) _)
-    ∙ ap (λ (v : Verdict). blamed 1 (lowest (λ (i : ℕ). not (lengthFits core)) 1 0) (blamed 2 (lowest (λ (i : ℕ). not (wordsFit core)) 1 0) v))
-    (single 30 (sheetFits sheet) _)
+use Rattle.inspector.specs.Rules.{Rule, rules}
+use Rattle.inspector.specs.Verdicts.{Found, at, nowhere, lowest, given, blamed, answerOf, verdictOf}
+use Rattle.inspector.proofs.Answers.{none-found}
+use Rattle.demands.specs.Rules.{Kept, BrokenAt, AllKept, none, kept, Blames, this, later}
 
 -- What a search finds.
 at-at : {p q : ℕ} → at p ≡ at q → p ≡ q
@@ -88,17 +70,17 @@ broken-found p (suc n) i q h l e f = by (eqb i q) refl (λ k. broken-found p n (
         ap (λ (b : Bool). elim b [ true ↦ at i | false ↦ lowest p n (suc i) ]) (f i (omega arith) d) ∙ k d
 
 -- Of any list of rules.
-kept-answer : (rs : List Rule) → AllKept rs → answer rs ≡ given 0 0
+kept-answer : (rs : List Rule) → AllKept rs → answerOf rs ≡ given 0 0
 kept-answer [] none = refl
 kept-answer (r ∷ rs) (kept k all) =
-    ap (λ (f : Found). blamed (r .number) f (answer rs)) (kept-found (r .broken) (r .places) 0 (λ j h l. k j (omega arith))) ∙ kept-answer rs all
+    ap (λ (f : Found). blamed (r .number) f (answerOf rs)) (kept-found (r .broken) (r .places) 0 (λ j h l. k j (omega arith))) ∙ kept-answer rs all
 
-blames-answer : {rs : List Rule} {n p : ℕ} → Blames rs n p → answer rs ≡ given n p
+blames-answer : {rs : List Rule} {n p : ℕ} → Blames rs n p → answerOf rs ≡ given n p
 blames-answer (this {r} {rs} {p} b) =
-    ap (λ (f : Found). blamed (r .number) f (answer rs))
+    ap (λ (f : Found). blamed (r .number) f (answerOf rs))
     (broken-found (r .broken) (r .places) 0 p (omega arith) (omega (arith, b .within)) (b .here) (λ j h l. b .lowest j l))
 blames-answer (later {r} {rs} k b) =
-    ap (λ (f : Found). blamed (r .number) f (answer rs)) (kept-found (r .broken) (r .places) 0 (λ j h l. k j (omega arith))) ∙ blames-answer b
+    ap (λ (f : Found). blamed (r .number) f (answerOf rs)) (kept-found (r .broken) (r .places) 0 (λ j h l. k j (omega arith))) ∙ blames-answer b
 
 -- No rule has the number 0.
 abbrev Counted : List Rule → Type 0
@@ -116,7 +98,7 @@ number-of e = ap (λ (v : Verdict). v .number) e
 place-of : {n p m q : ℕ} → given n p ≡ given m q → p ≡ q
 place-of e = ap (λ (v : Verdict). v .place) e
 
-told : (rs : List Rule) (n p : ℕ) → Counted rs → answer rs ≡ given n p → Told rs n p
+told : (rs : List Rule) (n p : ℕ) → Counted rs → answerOf rs ≡ given n p → Told rs n p
 told [] n p c e = clean (sym (number-of e)) (sym (place-of e)) none
 told (r ∷ rs) n p c e = by (lowest (r .broken) (r .places) 0) refl e (told rs n p (c .1))
   where
@@ -124,12 +106,12 @@ told (r ∷ rs) n p c e = by (lowest (r .broken) (r .places) 0) refl e (told rs 
     on (clean a b all) k = clean a b (kept k all)
     on (guilty a b) k = guilty a (later k b)
 
-    by : (f : Found) → lowest (r .broken) (r .places) 0 ≡ f → blamed (r .number) f (answer rs) ≡ given n p → (answer rs ≡ given n p → Told rs n p) → Told (r ∷ rs) n p
+    by : (f : Found) → lowest (r .broken) (r .places) 0 ≡ f → blamed (r .number) f (answerOf rs) ≡ given n p → (answerOf rs ≡ given n p → Told rs n p) → Told (r ∷ rs) n p
     by (at q) g e k =
         let l : Lowest (r .broken) (r .places) 0 q = found-at (r .broken) (r .places) 0 q g in
         let b : BrokenAt r q = record { within = omega (arith, l .below); here = l .here; lowest = λ i h. l .before i (omega arith) h } in
         subst (λ (m : ℕ). Told (r ∷ rs) m p) (number-of e) (subst (λ (m : ℕ). Told (r ∷ rs) (r .number) m) (place-of e) (guilty (c .0) (this b)))
-    by nowhere g e k = on (k e) (λ i h. lowest-none (r .broken) (r .places) 0 g i (omega arith) (omega arith))
+    by nowhere g e k = on (k e) (λ i h. none-found (r .broken) (r .places) 0 g i (omega arith) (omega arith))
 
 counted : (core sheet : List ℕ) → Counted (rules core sheet)
 counted core sheet =
@@ -137,7 +119,8 @@ counted core sheet =
 
 -- "answer 0 if and only if no printed rule is broken"
 pub zero-kept : (core sheet : List ℕ) → verdictOf core sheet ≡ given 0 0 → AllKept (rules core sheet)
-zero-kept core sheet e = of (told (rules core sheet) 0 0 (counted core sheet) (sym (as-rules core sheet) ∙ e))
+unfolding verdictOf
+zero-kept core sheet e = of (told (rules core sheet) 0 0 (counted core sheet) e)
   where
     of : Told (rules core sheet) 0 0 → AllKept (rules core sheet)
     of (clean a b all) = all
@@ -147,11 +130,13 @@ zero-kept core sheet e = of (told (rules core sheet) 0 0 (counted core sheet) (s
         no h = omega arith
 
 pub kept-zero : (core sheet : List ℕ) → AllKept (rules core sheet) → verdictOf core sheet ≡ given 0 0
-kept-zero core sheet all = as-rules core sheet ∙ kept-answer (rules core sheet) all
+unfolding verdictOf
+kept-zero core sheet all = kept-answer (rules core sheet) all
 
 -- "answer n at place p only if that rule is broken at p, at no lower place, and no earlier rule is broken anywhere"; and if
 pub number-blames : (core sheet : List ℕ) (n p : ℕ) → 0 < n → verdictOf core sheet ≡ given n p → Blames (rules core sheet) n p
-number-blames core sheet n p h e = of (told (rules core sheet) n p (counted core sheet) (sym (as-rules core sheet) ∙ e))
+unfolding verdictOf
+number-blames core sheet n p h e = of (told (rules core sheet) n p (counted core sheet) e)
   where
     of : Told (rules core sheet) n p → Blames (rules core sheet) n p
     of (clean a b all) = absurd (no a)
@@ -161,8 +146,21 @@ number-blames core sheet n p h e = of (told (rules core sheet) n p (counted core
     of (guilty a b) = b
 
 pub blames-number : (core sheet : List ℕ) (n p : ℕ) → Blames (rules core sheet) n p → verdictOf core sheet ≡ given n p
-blames-number core sheet n p b = as-rules core sheet ∙ blames-answer b
+unfolding verdictOf
+blames-number core sheet n p b = blames-answer b
 
 -- The answer is 0 at 0 or blames a rule: there is no third.
 pub answered : (core sheet : List ℕ) → 0 < verdictOf core sheet .number → Blames (rules core sheet) (verdictOf core sheet .number) (verdictOf core sheet .place)
 answered core sheet h = number-blames core sheet (verdictOf core sheet .number) (verdictOf core sheet .place) h refl
+
+-- An answer of 0 is at place 0.
+pub zero-given : (core sheet : List ℕ) → verdictOf core sheet .number ≡ 0 → verdictOf core sheet ≡ given 0 0
+unfolding verdictOf
+zero-given core sheet z = of (told (rules core sheet) (answerOf (rules core sheet) .number) (answerOf (rules core sheet) .place) (counted core sheet) refl)
+  where
+    of : Told (rules core sheet) (answerOf (rules core sheet) .number) (answerOf (rules core sheet) .place) → answerOf (rules core sheet) ≡ given 0 0
+    of (clean a b all) = kept-answer (rules core sheet) all
+    of (guilty h b) = absurd (no h z)
+      where
+        no : {n : ℕ} → 0 < n → n ≡ 0 → ⊥
+        no h z = omega arith

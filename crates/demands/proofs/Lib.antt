@@ -1,5 +1,4 @@
 pub mod Tests
-pub mod Lowest
 pub mod Exact
 pub mod Records
 pub mod Arrays

@@ -6,6 +6,7 @@ use mathlib.Core.List.{List}
 use lib.ListN.{length, getD}
 use Rattle.word.specs.Layout.{flagOf}
 use Rattle.sheet.specs.Sheets.{codeOf, codeWordsOf, sOf, roomOf, rOf, tableOf, cellOf}
+use Rattle.inspector.specs.Turns.{turnOf}
 use Rattle.inspector.specs.Scan.{shapeAt, broken, syllableAt, closes}
 use Rattle.inspector.specs.Targets.{missesTarget}
 use Rattle.demands.proofs.Records.{Apart}
@@ -30,5 +31,5 @@ pub record Passed (core sheet : List ℕ) : Type 0 where
   pub arrays : (c : ℕ) → cellOf sheet c ≡ 4 → ArrayFit core sheet (getD core (64 * rOf sheet + c) 0)
   -- the scan
   pub scan : (i : ℕ) → i < 4 * codeWordsOf sheet → broken (shapeAt core sheet (suc i)) ≡ false
-  pub last : (i : ℕ) → suc i ≡ 4 * codeWordsOf sheet → closes (syllableAt core sheet i) ≡ true
+  pub last : (i : ℕ) → suc i ≡ 4 * codeWordsOf sheet → closes (turnOf (syllableAt core sheet i)) ≡ true
   pub targets : (i : ℕ) → i < 4 * codeWordsOf sheet → missesTarget core sheet i ≡ false

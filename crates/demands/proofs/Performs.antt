@@ -23,7 +23,8 @@ use Rattle.syllable.specs.Encoding.{Proper, litc}
 use Rattle.syllable.specs.Positions.{nextOf}
 use Rattle.sheet.specs.Sheets.{codeOf, codeWordsOf, roomOf, cellOf}
 use Rattle.inspector.specs.Scan.{literal, number, place, Shape, Left, leaves, when, value, branched, branchedIf, communicated, logicLeft, within, broken, syllableAt, syllableLeft, shapeAt, closes}
-use Rattle.inspector.specs.Targets.{distance, missesAt, misses, branchMisses, syllableMisses, missesTarget}
+use Rattle.inspector.specs.Targets.{distance, missesAt, misses, turnMisses, missesTarget}
+use Rattle.inspector.specs.Turns.{branches, turnOf}
 use Rattle.demands.proofs.Safe.{Safe, goes}
 use Rattle.demands.proofs.Passed.{Passed}
 use Rattle.demands.proofs.Holds.{Kept, At}
@@ -63,7 +64,7 @@ module _ (core sheet : List ℕ) (ok : Passed core sheet) (here i : ℕ) (h : i 
   abbrev p : ℕ
   p = nextOf (4 * codeOf sheet + i)
 
-  good : (x : Syllable) → syllableAt core sheet i ≡ x → (r : Res State) → closes x ≡ false → Does core sheet p (syllableLeft sheet x xs) r → Good core sheet (plain r)
+  good : (x : Syllable) → syllableAt core sheet i ≡ x → (r : Res State) → closes (turnOf x) ≡ false → Does core sheet p (syllableLeft sheet x xs) r → Good core sheet (plain r)
   good x q r c d = plain-good core sheet ok i h xs shape x q r c d
 
   -- A syllable that the scan always breaks does not stand in the code.
@@ -77,9 +78,9 @@ module _ (core sheet : List ℕ) (ok : Passed core sheet) (here i : ℕ) (h : i 
   logic-does Lng = one-word-does core sheet ok p st lngOf (λ a e. body-flag a _ ∙ e) xs v
 
   -- Rule 35 looked where the machine goes.
-  aimed : (o : BranchGroup) → syllableAt core sheet i ≡ Operates (Branch o) → branchMisses core sheet i o ≡ false
+  aimed : (o : BranchGroup) → syllableAt core sheet i ≡ Operates (Branch o) → turnMisses core sheet i (branches o) ≡ false
   unfolding missesTarget
-  aimed o q = subst (λ (y : Syllable). syllableMisses core sheet i y ≡ false) q (ok .targets i h)
+  aimed o q = subst (λ (y : Syllable). turnMisses core sheet i (turnOf y) ≡ false) q (ok .targets i h)
 
   far : (back : Bool) → misses core sheet i back ≡ false → missesAt core sheet (landingOf back p (distance (leaves xs))) ≡ false
   far back e = subst (λ (o : Left). missesAt core sheet (landingOf back p (distance o)) ≡ false) shape e

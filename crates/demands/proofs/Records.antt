@@ -7,7 +7,7 @@ use native.Mathlib.Omega.{arith}
 use borrow.Author.Tests.{lt-ltb}
 use lib.Dec.{eqb, ltb, leb}
 use Rattle.sheet.specs.Sheets.{Entry, entryAt, cellIn}
-use Rattle.inspector.specs.Areas.{meets}
+use Rattle.inspector.specs.Areas.{area, meets}
 use Rattle.inspector.specs.Records.{ranged, cellsGood}
 use Rattle.demands.proofs.Tests.{shows-and, shows-lt, shows-le, shows-eq, shows}
 
@@ -15,9 +15,9 @@ use Rattle.demands.proofs.Tests.{shows-and, shows-lt, shows-le, shows-e
 abbrev pub Apart : ℕ → ℕ → ℕ → ℕ → Type 0
 Apart a n b m = (j : ℕ) → a ≤ j → j < a + n → b ≤ j → j < b + m → ⊥
 
-pub apart : (a n b m : ℕ) → meets a n b m ≡ false → Apart a n b m
+pub apart : (a n b m : ℕ) → meets (area a n) (area b m) ≡ false → Apart a n b m
 apart a n b m e j p q s t =
-    let yes′ : meets a n b m ≡ true = rw (lt-ltb 0 n (omega arith), lt-ltb 0 m (omega arith), lt-ltb a (b + m) (omega arith), lt-ltb b (a + n) (omega arith)) in
+    let yes′ : meets (area a n) (area b m) ≡ true = rw (lt-ltb 0 n (omega arith), lt-ltb 0 m (omega arith), lt-ltb a (b + m) (omega arith), lt-ltb b (a + n) (omega arith)) in
     false≢true (sym e ∙ yes′)
 
 pub record Range (firstMost low high : ℕ) (e : Entry) : Type 0 where

@@ -2,7 +2,7 @@
 use Prim.Native.Nat.{ℕ, _≤_, _<_}
 use mathlib.Core.Path.{_≡_, refl}
 use mathlib.Core.Bool.{Bool, true, false, not, _&&_, _||_, false≢true, true≢false}
-use borrow.Author.Tests.{ltb-true, ltb-false, leb-true, leb-false, eqb-true, not-true, not-false}
+use borrow.Author.Tests.{ltb-true, ltb-false, leb-true, eqb-true, not-true, not-false}
 use lib.Dec.{eqb, ltb, leb}
 
 abbrev pub Shows : Bool → Type 0 → Type 0
@@ -41,9 +41,6 @@ shows-not b = not-true b
 
 pub denies-lt : (m n : ℕ) → Denies (ltb m n) (n ≤ m)
 denies-lt m n = ltb-false m n
-
-pub denies-le : (m n : ℕ) → Denies (leb m n) (n < m)
-denies-le m n = leb-false m n
 
 pub denies : (b : Bool) → Denies b (b ≡ false)
 denies b e = e

@@ -6,10 +6,11 @@ use mathlib.Core.Path.{_≡_}
 use mathlib.Core.List.{List}
 use Rattle.machine.specs.States.{State}
 use Rattle.machine.specs.Runs.{Run, runOf}
+use Rattle.inspector.specs.Rules.{rules}
 use Rattle.inspector.specs.Verdicts.{given, verdictOf}
 use Rattle.demands.specs.Stays.{startOf, Reaches, Stays}
 use Rattle.demands.specs.Leaves.{Leaves}
-use Rattle.demands.specs.Rules.{rules, AllKept, Blames}
+use Rattle.demands.specs.Rules.{AllKept, Blames}
 use Rattle.demands.specs.Sample.{sampleCore, sampleSheet}
 
 pub record Demand3 : Type 0 where

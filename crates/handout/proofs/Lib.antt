@@ -1,3 +1,4 @@
 pub mod Numbers
 pub mod Agree
 pub mod Parts
+pub mod OneAnswer

@@ -1,50 +1,38 @@
 -- "hand out the words an array cell names, as that stretch of the core itself"
 use Prim.Native.Nat.{ℕ, _+_, _*_}
 use mathlib.Core.Path.{_≡_}
-use mathlib.Core.Bool.{Bool, true, false, _&&_}
+use mathlib.Core.Bool.{Bool, _&&_}
 use mathlib.Core.List.{List}
-use lib.Dec.{eqb, ltb, leb}
+use lib.Dec.{eqb, ltb}
 use lib.ListN.{length, getD, take, drop}
 use denote.Ref.{RefT, ptr, now}
-use Rattle.word.specs.Choices.{choose}
+use Rattle.word.specs.Choices.{if_then_else_}
 use Rattle.word.specs.Addresses.{cellAddress}
+use Rattle.word.specs.Arrays.{arrayIn}
 use Rattle.word.specs.Core.{lengthFits, wordsFit}
-use Rattle.word.specs.Layout.{presenceOf, sizeOf, addressOf}
-use Rattle.word.specs.Kinds.{kindOf}
-use Rattle.word.specs.declared.kinds.Kind.{Kind}
-use Rattle.word.specs.declared.kinds.Kind.the-variants.{Operand, Data, Program, Control}
-
-abbrev pub isData : Kind → Bool
-isData Operand = false
-isData Data = true
-isData Program = false
-isData Control = false
-
--- "a present data descriptor of size over 0 wholly in core"
-unfoldable pub arrayFits : ℕ → ℕ → Bool
-arrayFits len w = isData (kindOf w) && presenceOf w && ltb 0 (sizeOf w) && leb (addressOf w + sizeOf w) len
+use Rattle.word.specs.Layout.{sizeOf, addressOf}
 
 -- The word in an array cell.
 abbrev pub cellWord : List ℕ → ℕ → ℕ → ℕ
 cellWord core r cell = getD core (cellAddress r cell) 0
 
--- "36 unless the cell is in core and holds" such a descriptor
+-- "36 unless the cell is in core and holds a present data descriptor of size over 0 wholly in core"
 unfoldable pub cellFits : List ℕ → ℕ → ℕ → Bool
-cellFits core r cell = ltb (cellAddress r cell) (length core) && arrayFits (length core) (cellWord core r cell)
+cellFits core r cell = ltb (cellAddress r cell) (length core) && arrayIn (length core) (cellWord core r cell)
 
 -- "checks 1, 2, 3 (R below 512, cell below 1,024), 36"
 unfoldable pub handOutNumber : List ℕ → ℕ → ℕ → ℕ
 handOutNumber core r cell =
-    choose (lengthFits core)
-    (choose (wordsFit core) (choose (ltb r 512 && ltb cell 1024) (choose (cellFits core r cell) 0 36) 3) 2)
-    1
+    if lengthFits core then
+    (if wordsFit core then (if ltb r 512 && ltb cell 1024 then (if cellFits core r cell then 0 else 36) else 3) else 2)
+    else 1
 
 -- From the descriptor's address for its size; "each with an empty stretch".
 unfoldable pub stretchStart : List ℕ → ℕ → ℕ → ℕ
-stretchStart core r cell = choose (eqb (handOutNumber core r cell) 0) (addressOf (cellWord core r cell)) 0
+stretchStart core r cell = if eqb (handOutNumber core r cell) 0 then addressOf (cellWord core r cell) else 0
 
 unfoldable pub stretchCount : List ℕ → ℕ → ℕ → ℕ
-stretchCount core r cell = choose (eqb (handOutNumber core r cell) 0) (sizeOf (cellWord core r cell)) 0
+stretchCount core r cell = if eqb (handOutNumber core r cell) 0 then sizeOf (cellWord core r cell) else 0
 
 unfoldable pub stretchOf : List ℕ → ℕ → ℕ → List ℕ
 stretchOf core r cell = take (stretchCount core r cell) (drop (stretchStart core r cell) core)

@@ -1,33 +1,11 @@
 // The words an array cell names, handed out as that stretch of the core itself.
 ghost use mathlib.Core.Path.{_≡_};
-ghost use Rattle.handout.specs.HandOut.{isData, arrayFits, handOutNumber, stretchStart, stretchCount, HandedOut};
-ghost use Rattle.word.specs.Kinds.{kindOf};
-use word::Kind;
+ghost use Rattle.handout.specs.HandOut.{handOutNumber, stretchStart, stretchCount, HandedOut};
 
 // A stretch of the core by its first word and how many words it has.
 pub struct Stretch {
     pub start: usize,
     pub count: usize,
-}
-
-fn is_data(w: u64) -> bool
-    ensures { λ r. ⌜ r ≡ isData (kindOf w) ⌝ }
-{
-    match word::kind_of(w) {
-        Kind::Operand => false,
-        Kind::Data => true,
-        Kind::Program => false,
-        Kind::Control => false,
-    }
-}
-
-// A present data descriptor of size over 0, wholly in a core of len words.
-fn array_fits(len: usize, w: u64) -> bool
-    ensures { λ r. ⌜ r ≡ arrayFits len w ⌝ }
-{
-    let size = word::size(w) as usize;
-    let end = word::address(w) as usize + size;
-    is_data(w) & word::presence(w) & (0 < size) & (end <= len)
 }
 
 // Why an array cell's words are not handed out, or 0.
@@ -40,7 +18,7 @@ pub fn hand_out_number(core: &[u64], r: u16, cell: u16) -> u64
                 if cell < 1024 {
                     let at = 64 * r as usize + cell as usize;
                     if at < core.len() {
-                        if array_fits(core.len(), core[at]) {
+                        if word::array_in(core.len(), core[at]) {
                             return 0;
                         }
                     }
@@ -76,14 +54,4 @@ pub fn hand_out(core: &[u64], r: u16, cell: u16) -> &[u64]
     let from = s.start;
     let to = from + s.count;
     &core[from..to]
-}
-
-// The same to write into.
-pub fn hand_out_mut(core: &mut [u64], r: u16, cell: u16) -> &mut [u64]
-    ensures { λ s. ⌜ HandedOut (core .entry) s r cell ⌝ }
-{
-    let s = hand_out_bounds(&core[..], r, cell);
-    let from = s.start;
-    let to = from + s.count;
-    &mut core[from..to]
 }

@@ -11,7 +11,8 @@ use Rattle.inspector.specs.declared.targets.Landing.{Landing}
 use Rattle.inspector.specs.declared.targets.Landing.the-variants.{On, Past}
 use Rattle.sheet.specs.Sheets.{codeOf, codeWordsOf}
 use Rattle.inspector.specs.Scan.{Left, syllableAt, shapeAt}
-use Rattle.inspector.specs.Targets.{isEmpty, distance, lands, missesAt, misses, syllableMisses, missesTarget}
+use Rattle.inspector.specs.Targets.{isEmpty, distance, lands, missesAt, misses, turnMisses, missesTarget}
+use Rattle.inspector.specs.Turns.{turnOf}
 use Rattle.inspector.specs.ForCode.Forms.{farOf, landOf, Aimed}
 use Rattle.inspector.proofs.Syllables.{All, end, _&_, each, unknown}
 use Rattle.machine.specs.Outcomes.{Res, on, halt}
@@ -20,12 +21,15 @@ use Rattle.syllable.specs.declared.Syllable.{Syllable}
 use Rattle.syllable.specs.Decoding.{decodeOf}
 use Rattle.syllable.specs.ForCode.Numbered.{syllableNumbered as numbered}
 use Rattle.syllable.specs.Positions.{syllableOf, nextOf}
+use Rattle.word.specs.Choices.{if_then_else_}
 
 pub far-yes : (m : ℕ) {r : ℕ} → m < 1025 → r ≡ m - 1 → r ≡ farOf m
-far-yes m h e = e ∙ sym (ap (λ (s : Bool). elim s [ true ↦ m - 1 | false ↦ 0 ]) (lt-ltb m 1025 h))
+unfolding if_then_else_
+far-yes m h e = e ∙ sym (ap (λ (s : Bool). if s then m - 1 else 0) (lt-ltb m 1025 h))
 
 pub far-no : (m : ℕ) → 1025 ≤ m → 0 ≡ farOf m
-far-no m h = sym (ap (λ (s : Bool). elim s [ true ↦ m - 1 | false ↦ 0 ]) (le-ltb m 1025 h))
+unfolding if_then_else_
+far-no m h = sym (ap (λ (s : Bool). if s then m - 1 else 0) (le-ltb m 1025 h))
 
 module _ {marks : List ℕ} {code words : ℕ} (t : ℕ) (core sheet : List ℕ) (a : Aimed core sheet marks code words) where
   -- A landing by the code's own numbers.
@@ -63,12 +67,12 @@ module _ {marks : List ℕ} {code words d i : ℕ} (back : Bool) (l : Landing) (
   misses-on e f g = g ∙ ap not f ∙ sym (ap (λ (x : Landing). missesAt core sheet (landOf x)) e) ∙ misses-as
 
 module _ (core sheet : List ℕ) (i k : ℕ) where
-  pub miss-at : (n m : ℕ) {r : Bool} → n ≡ m → r ≡ syllableMisses core sheet i (numbered m k) → r ≡ syllableMisses core sheet i (numbered n k)
-  miss-at n m e f = f ∙ sym (ap (λ (j : ℕ). syllableMisses core sheet i (numbered j k)) e)
+  pub miss-at : (n m : ℕ) {r : Bool} → n ≡ m → r ≡ turnMisses core sheet i (turnOf (numbered m k)) → r ≡ turnMisses core sheet i (turnOf (numbered n k))
+  miss-at n m e f = f ∙ sym (ap (λ (j : ℕ). turnMisses core sheet i (turnOf (numbered j k))) e)
 
   -- All but the four branches miss nothing.
   abbrev Quiet : ℕ → Type 0
-  Quiet n = (n ≡ 30 → ⊥) → (n ≡ 31 → ⊥) → (n ≡ 32 → ⊥) → (n ≡ 33 → ⊥) → false ≡ syllableMisses core sheet i (numbered n k)
+  Quiet n = (n ≡ 30 → ⊥) → (n ≡ 31 → ⊥) → (n ≡ 32 → ⊥) → (n ≡ 33 → ⊥) → false ≡ turnMisses core sheet i (turnOf (numbered n k))
 
   pub quiet-at : (n : ℕ) → Quiet n
   quiet-at n = by (ltb n 40) refl
@@ -82,10 +86,10 @@ module _ (core sheet : List ℕ) (i k : ℕ) where
           (λ p q r s. absurd (p refl)) & (λ p q r s. absurd (q refl)) & (λ p q r s. absurd (r refl)) & (λ p q r s. absurd (s refl)) & (λ p q r s. refl) & (λ p q r s. refl) & (λ p q r s. refl) & (λ p q r s. refl) & (λ p q r s. refl) & (λ p q r s. refl) & end)
           zero-le
           (omega (arith, ltb-true n 40 e))
-      by false e = λ p q r s. ap (λ (y : Syllable). syllableMisses core sheet i y) (unknown n k (omega (arith, ltb-false n 40 e)))
+      by false e = λ p q r s. ap (λ (y : Syllable). turnMisses core sheet i (turnOf y)) (unknown n k (omega (arith, ltb-false n 40 e)))
 
 pub target-as : (core sheet : List ℕ) (i n k : ℕ) {code : ℕ} {r : Bool} → code ≡ codeOf sheet →
-    numbered n k ≡ decodeOf (syllableOf (getD core (code + i / 4) 0) (i % 4)) → r ≡ syllableMisses core sheet i (numbered n k) → missesTarget core sheet i ≡ r
+    numbered n k ≡ decodeOf (syllableOf (getD core (code + i / 4) 0) (i % 4)) → r ≡ turnMisses core sheet i (turnOf (numbered n k)) → missesTarget core sheet i ≡ r
 unfolding missesTarget
 target-as core sheet i n k e y f =
-    sym (f ∙ ap (syllableMisses core sheet i) (y ∙ ap (λ (c : ℕ). decodeOf (syllableOf (getD core (c + i / 4) 0) (i % 4))) e))
+    sym (f ∙ ap (λ (y : Syllable). turnMisses core sheet i (turnOf y)) (y ∙ ap (λ (c : ℕ). decodeOf (syllableOf (getD core (c + i / 4) 0) (i % 4))) e))

@@ -11,7 +11,7 @@ use Rattle.inspector.specs.declared.verdict.Verdict.{Verdict}
 use Rattle.inspector.specs.declared.verdict.Find.{Find}
 use Rattle.inspector.specs.declared.verdict.Find.the-variants.{At, Nowhere}
 use Rattle.sheet.specs.Sheets.{Entry, entryAt, entries, codeWordsOf, roomOf, tableOf}
-use Rattle.inspector.specs.Verdicts.{Found, at, nowhere, lowest, given, blamed, refused}
+use Rattle.inspector.specs.Verdicts.{Found, at, nowhere, lowest, given, blamed}
 use Rattle.inspector.specs.ForCode.Forms.{foundOf, SheetRanged}
 use Rattle.inspector.specs.Records.{ranged, recordGood, sheetFits}
 
@@ -21,11 +21,12 @@ blames n rest e t = sym (ap (λ (x : Found). blamed n x rest) (sym e ∙ ap foun
 pub passes : (n : ℕ) {f : Found} {r : Find} {v rest : Verdict} → foundOf r ≡ f → r ≡ Nowhere → v ≡ rest → v ≡ blamed n f rest
 passes n {rest = rest} e t g = g ∙ sym (ap (λ (x : Found). blamed n x rest) (sym e ∙ ap foundOf t))
 
-pub refuses : (n : ℕ) {b r : Bool} (rest : Verdict) → r ≡ b → r ≡ false → given n 0 ≡ refused n b rest
-refuses n rest e t = sym (ap (λ (x : Bool). refused n x rest) (sym e ∙ t))
+-- A rule of one place.
+pub refuses : (n : ℕ) {b r : Bool} (rest : Verdict) → r ≡ b → r ≡ false → given n 0 ≡ blamed n (lowest (λ (i : ℕ). not b) 1 0) rest
+refuses n rest e t = sym (ap (λ (x : Bool). blamed n (lowest (λ (i : ℕ). not x) 1 0) rest) (sym e ∙ t))
 
-pub admits : (n : ℕ) {b r : Bool} {v rest : Verdict} → r ≡ b → r ≡ true → v ≡ rest → v ≡ refused n b rest
-admits n {rest = rest} e t g = g ∙ sym (ap (λ (x : Bool). refused n x rest) (sym e ∙ t))
+pub admits : (n : ℕ) {b r : Bool} {v rest : Verdict} → r ≡ b → r ≡ true → v ≡ rest → v ≡ blamed n (lowest (λ (i : ℕ). not b) 1 0) rest
+admits n {rest = rest} e t g = g ∙ sym (ap (λ (x : Bool). blamed n (lowest (λ (i : ℕ). not x) 1 0) rest) (sym e ∙ t))
 
 at-not-nowhere : {A : Type 0} {p : ℕ} → at p ≡ nowhere → A
 at-not-nowhere e = absurd (clash e)

@@ -1,15 +1,16 @@
 -- Rule 33 as the code takes it: an array's words one by one, and a cell by its kind.
-use Prim.Native.Nat.{ℕ, zero, suc, _+_, _-_, _*_, _≤_, _<_}
-use mathlib.Core.Path.{_≡_, refl, sym, _∙_, ap, subst}
+use Prim.Native.Nat.{ℕ, suc, _+_, _-_, _*_, _≤_, _<_}
+use mathlib.Core.Path.{_≡_, sym, _∙_, ap}
 use mathlib.Core.Bool.{Bool, true, false, not, _&&_, _||_, or-false}
 use mathlib.Core.List.{List}
 use native.Mathlib.Omega.{arith}
 use borrow.Author.Tests.{ne-eqb}
 use lib.Dec.{eqb}
-use lib.ListN.{getD}
+use lib.ListN.{length, getD}
 use Rattle.sheet.specs.Sheets.{rOf, cellOf}
+use Rattle.inspector.specs.Areas.{area, clearOf}
 use Rattle.inspector.specs.Cells.{plainWords, arrayFits, unfit}
-use Rattle.inspector.specs.ForCode.Forms.{namedOf, clearOf}
+use Rattle.word.specs.Arrays.{arrayIn}
 use Rattle.word.specs.Layout.{flagOf, sizeOf, addressOf}
 
 -- The words of an array below the j-th are plain.
@@ -47,34 +48,18 @@ plain-all core a n j h p =
     let k : n - j ≡ 0 = omega arith in
     sym (p .plain ∙ ap (plainWords core (a + j)) k)
 
--- The definition tests the descriptor, then the area, then the words.
-joined : (a b c d e f : Bool) → ((a && (b && c && d && e)) && f) ≡ (a && b && c && d && e && f)
-joined true b c d e f = refl
-joined false b c d e f = refl
-
-fits-as : (core sheet : List ℕ) (d : ℕ) → ((namedOf d && clearOf core sheet (addressOf d) (sizeOf d)) && plainWords core (addressOf d) (sizeOf d)) ≡ arrayFits core sheet d
-unfolding arrayFits
-fits-as core sheet d = joined (namedOf d) _ _ _ _ (plainWords core (addressOf d) (sizeOf d))
-
--- A chain of four tests, each the code's.
-pub chained : (x : Bool) {n₁ n₂ n₃ c₁ c₂ c₃ b₁ b₂ r : Bool} → n₁ ≡ c₁ → n₂ ≡ c₂ → n₃ ≡ c₃ → b₁ ≡ (x && n₁) → b₂ ≡ (b₁ && n₂) → r ≡ (b₂ && n₃) → r ≡ (x && c₁ && c₂ && c₃)
-chained x e f g p q t = cc
-
-module _ (core sheet : List ℕ) (d a n : ℕ) {named clear both : Bool} (at : a ≡ addressOf d) (of : n ≡ sizeOf d)
-    (e : named ≡ namedOf d) (f : clear ≡ clearOf core sheet a n) (g : both ≡ (named && clear)) where
-  tested : both ≡ (namedOf d && clearOf core sheet (addressOf d) (sizeOf d))
-  tested =
-      g ∙ ap (λ (b : Bool). b && clear) e
-      ∙ ap (λ (b : Bool). namedOf d && b) (f ∙ ap (λ (x : ℕ). clearOf core sheet x n) at ∙ ap (clearOf core sheet (addressOf d)) of)
+-- An array's rule by the code's tests: its descriptor and its area, then its words.
+module _ (core sheet : List ℕ) (d a n : ℕ) {array clear both : Bool} (at : a ≡ addressOf d) (of : n ≡ sizeOf d)
+    (e : array ≡ arrayIn (length core) d) (f : clear ≡ clearOf sheet (area a n)) (g : both ≡ (array && clear)) where
+  fits-as : (both && plainWords core a n) ≡ arrayFits core sheet d
+  unfolding arrayFits
+  fits-as = rw (g, e, f, at, of)
 
   pub array-yes : {r : Bool} → both ≡ true → r ≡ plainWords core a n → r ≡ arrayFits core sheet d
-  array-yes t p =
-      p ∙ ap (λ (x : ℕ). plainWords core x n) at ∙ ap (plainWords core (addressOf d)) of
-      ∙ sym (ap (λ (b : Bool). b && plainWords core (addressOf d) (sizeOf d)) (sym tested ∙ t))
-      ∙ fits-as core sheet d
+  array-yes t p = p ∙ sym (ap (λ (b : Bool). b && plainWords core a n) t) ∙ fits-as
 
   pub array-no : both ≡ false → false ≡ arrayFits core sheet d
-  array-no t = sym (ap (λ (b : Bool). b && plainWords core (addressOf d) (sizeOf d)) (sym tested ∙ t)) ∙ fits-as core sheet d
+  array-no t = sym (ap (λ (b : Bool). b && plainWords core a n) t) ∙ fits-as
 
 -- A cell's rule by its kind.
 ruled : ℕ → Bool → Bool → Bool

@@ -14,7 +14,8 @@ use Rattle.inspector.specs.declared.verdict.Find.the-variants.{At, Nowhe
 use Rattle.inspector.specs.declared.shapes.Scanned.{Scanned}
 use Rattle.inspector.specs.declared.shapes.Scanned.the-variants.{Height, Broken}
 use Rattle.sheet.specs.Sheets.{codeOf, codeWordsOf, roomOf}
-use Rattle.inspector.specs.Scan.{Shape, Left, leaves, breaks, then, within, broken, closes, syllableLeft, syllableAt, shapeAt, breaksAt}
+use Rattle.inspector.specs.Turns.{turnOf}
+use Rattle.inspector.specs.Scan.{Shape, Left, leaves, breaks, carried, within, broken, closes, syllableLeft, syllableAt, shapeAt, breaksAt}
 use Rattle.inspector.specs.ForCode.Forms.{shapeOf, scannedOf, Became, Mark, Marked, marksOf, Scans}
 use Rattle.inspector.proofs.Searches.{Sought, sought-none, sought-more, sought-at, sought-all}
 use Rattle.syllable.specs.declared.Syllable.{Syllable}
@@ -57,14 +58,14 @@ module _ {core sheet items marks new : List ℕ} {h i room code words : ℕ} {r 
   next : shapeAt core sheet (suc i) ≡ scannedOf new r
   unfolding shapeAt
   next =
-      ap (λ (s : Left). then s (λ xs. within (roomOf sheet) (syllableLeft sheet (syllableAt core sheet i) xs))) (g .shape)
+      ap (λ (s : Left). carried s (λ xs. within (roomOf sheet) (syllableLeft sheet (syllableAt core sheet i) xs))) (g .shape)
       ∙ ap (λ (s : Syllable). within (roomOf sheet) (syllableLeft sheet s (shapeOf items h))) (sym reads)
       ∙ ap (λ (m : ℕ). within m (syllableLeft sheet (numbered n k) (shapeOf items h))) (sym er)
       ∙ sym (t .same)
 
-  breaks-as : (b : Bool) → broken (scannedOf new r) ≡ b → breaksAt core sheet i ≡ (b || (eqb (suc i) (4 * codeWordsOf sheet) && not (closes (syllableAt core sheet i))))
+  breaks-as : (b : Bool) → broken (scannedOf new r) ≡ b → breaksAt core sheet i ≡ (b || (eqb (suc i) (4 * codeWordsOf sheet) && not (closes (turnOf (syllableAt core sheet i)))))
   unfolding breaksAt
-  breaks-as b e = ap (λ (c : Bool). c || (eqb (suc i) (4 * codeWordsOf sheet) && not (closes (syllableAt core sheet i)))) (ap broken next ∙ e)
+  breaks-as b e = ap (λ (c : Bool). c || (eqb (suc i) (4 * codeWordsOf sheet) && not (closes (turnOf (syllableAt core sheet i))))) (ap broken next ∙ e)
 
   pub going-broken : (marks′ : List ℕ) → i < 4 * words → r ≡ Broken → Scans core sheet marks′ (At i)
   unfolding scannedOf
@@ -74,16 +75,16 @@ module _ {core sheet items marks new : List ℕ} {h i room code words : ℕ} {r 
         marked = tt;
       }
 
-  last-as : {m : ℕ} → r ≡ Height m → breaksAt core sheet i ≡ (eqb (i + 1) (4 * words) && not (closes (numbered n k)))
+  last-as : {m : ℕ} → r ≡ Height m → breaksAt core sheet i ≡ (eqb (i + 1) (4 * words) && not (closes (turnOf (numbered n k))))
   unfolding scannedOf
   last-as e =
       let up : suc i ≡ i + 1 = omega arith in
       breaks-as false (ap (λ (x : Scanned). broken (scannedOf new x)) e)
-      ∙ ap (λ (w : ℕ). eqb (suc i) (4 * w) && not (closes (syllableAt core sheet i))) (sym ew)
-      ∙ ap (λ (s : Syllable). eqb (suc i) (4 * words) && not (closes s)) (sym reads)
-      ∙ ap (λ (j : ℕ). eqb j (4 * words) && not (closes (numbered n k))) up
+      ∙ ap (λ (w : ℕ). eqb (suc i) (4 * w) && not (closes (turnOf (syllableAt core sheet i)))) (sym ew)
+      ∙ ap (λ (s : Syllable). eqb (suc i) (4 * words) && not (closes (turnOf s))) (sym reads)
+      ∙ ap (λ (j : ℕ). eqb j (4 * words) && not (closes (turnOf (numbered n k)))) up
 
-  pub going-unclosed : {m : ℕ} {u : Bool} (marks′ : List ℕ) → i < 4 * words → r ≡ Height m → u ≡ (eqb (i + 1) (4 * words) && not (closes (numbered n k))) → u ≡ true → Scans core sheet marks′ (At i)
+  pub going-unclosed : {m : ℕ} {u : Bool} (marks′ : List ℕ) → i < 4 * words → r ≡ Height m → u ≡ (eqb (i + 1) (4 * words) && not (closes (turnOf (numbered n k)))) → u ≡ true → Scans core sheet marks′ (At i)
   going-unclosed marks′ l e f u =
       record {
         found = sought-at (breaksAt core sheet) (4 * codeWordsOf sheet) i (subst (λ (w : ℕ). i < 4 * w) ew l) (last-as e ∙ sym f ∙ u) (g .sought);
@@ -91,7 +92,7 @@ module _ {core sheet items marks new : List ℕ} {h i room code words : ℕ} {r 
       }
 
   pub going-more : {m x : ℕ} {u : Bool} → i < 4 * words → i < length marks → Mark (leaves (shapeOf items h)) x → r ≡ Height m →
-      u ≡ (eqb (i + 1) (4 * words) && not (closes (numbered n k))) → u ≡ false → Going core sheet new (set marks i x) m (i + 1)
+      u ≡ (eqb (i + 1) (4 * words) && not (closes (turnOf (numbered n k)))) → u ≡ false → Going core sheet new (set marks i x) m (i + 1)
   unfolding scannedOf
   going-more {m} {x} l b k e f u =
       let up : i + 1 ≡ suc i = omega arith in

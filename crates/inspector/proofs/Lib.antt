@@ -4,6 +4,7 @@ pub mod Arrays
 pub mod Doings
 pub mod Examples
 pub mod Goings
+pub mod OneAnswer
 pub mod Paints
 pub mod Records
 pub mod Searches

@@ -10,9 +10,16 @@ use lib.ListN.{length, getD, set, replicate, length-set, length-replicate, getD-
 use lib.Seq.{getD-set-same, getD-set-other}
 use Rattle.sheet.specs.Sheets.{entryAt, entries, cellIn, cellOf}
 use Rattle.inspector.specs.ForCode.Forms.{painted, Painted, Cells}
+use Rattle.word.specs.Choices.{if_then_else_}
 
 abbrev chosen : ℕ → ℕ → Bool → ℕ
-chosen kind old b = elim b [ true ↦ kind | false ↦ old ]
+chosen kind old b = if b then kind else old
+
+-- The choice of `cellIn`, which recurses and so spells it out.
+spelled : (kind old : ℕ) (b : Bool) → chosen kind old b ≡ elim b [ true ↦ kind | false ↦ old ]
+unfolding if_then_else_
+spelled kind old true = refl
+spelled kind old false = refl
 
 -- Cell c is none of the first 0 cells from a on.
 none-in : (a c : ℕ) (b : Bool) → leb a c ≡ b → (b && ltb c (a + 0)) ≡ false
@@ -20,6 +27,7 @@ none-in a c true e = le-ltb c (a + 0) (omega (arith, leb-true a c e))
 none-in a c false e = refl
 
 pub paint-none : (a kind : ℕ) (cells : List ℕ) → length cells ≡ 1024 → Painted a 0 kind cells cells
+unfolding if_then_else_
 paint-none a kind cells l =
     record { sized = l; paint = λ c h. sym (ap (chosen kind (getD cells c 0)) (none-in a c (leb a c) refl)) }
 
@@ -37,6 +45,7 @@ next-in a j c e =
 
 paint-at : (a j kind old c : ℕ) (cells : List ℕ) → length cells ≡ 1024 → c < 1024 → getD cells c 0 ≡ painted a j kind old c →
     (b : Bool) → eqb c (a + j) ≡ b → getD (set cells (a + j) kind) c 0 ≡ painted a (j + 1) kind old c
+unfolding if_then_else_
 paint-at a j kind old c cells l h e true t =
     let k : c ≡ a + j = eqb-true c (a + j) t in
     ap (λ (m : ℕ). getD (set cells m kind) c 0) (sym k) ∙ getD-set-same cells c kind 0 (omega arith) ∙ sym (ap (chosen kind old) (next-in a j c k))
@@ -88,6 +97,7 @@ filled-more cells new sheet i a n kind h l ea en ek e f =
     under c b =
         let k : i ≡ suc (i - 1) = omega arith in
         ap (λ (x : ℕ). chosen (entryAt sheet (i - 1) .kind) x (test c)) (f .filled c b ∙ ap (λ (m : ℕ). cellIn sheet (entries sheet - i) m c) k)
+        ∙ spelled (entryAt sheet (i - 1) .kind) _ (test c)
 
     counted : (c : ℕ) → cellIn sheet (suc (entries sheet - i)) (i - 1) c ≡ cellIn sheet (entries sheet - (i - 1)) (i - 1) c
     counted c =

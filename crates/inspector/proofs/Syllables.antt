@@ -8,6 +8,7 @@ use native.Mathlib.Omega.{arith}
 use borrow.Author.Tests.{eqb-true, eqb-false, ne-eqb, ltb-true, ltb-false}
 use lib.Dec.{eqb, ltb}
 use lib.ListN.{length, getD}
+use Rattle.inspector.specs.Turns.{turnOf}
 use Rattle.inspector.specs.Scan.{Shape, Left, leaves, breaks, twoValues, oneValue, branched, branchedIf, syllableLeft, closes}
 use Rattle.syllable.specs.declared.Operator.{Operator}
 use Rattle.syllable.specs.declared.Operator.the-variants.{NotBuilt}
@@ -105,19 +106,19 @@ twenty-nine n h l a b c d e f g i =
 abbrev closing : ℕ → Bool
 closing n = eqb n 30 || eqb n 31 || eqb n 36
 
-pub closes-at : (n k : ℕ) → closing n ≡ closes (syllableNumbered n k)
+pub closes-at : (n k : ℕ) → closing n ≡ closes (turnOf (syllableNumbered n k))
 closes-at n k = by (ltb n 40) refl
   where
-    by : (b : Bool) → ltb n 40 ≡ b → closing n ≡ closes (syllableNumbered n k)
+    by : (b : Bool) → ltb n 40 ≡ b → closing n ≡ closes (turnOf (syllableNumbered n k))
     by true e =
-        each (λ (n : ℕ). closing n ≡ closes (syllableNumbered n k)) 40 0 n
+        each (λ (n : ℕ). closing n ≡ closes (turnOf (syllableNumbered n k))) 40 0 n
         (refl & refl & refl & refl & refl & refl & refl & refl & refl & refl & refl & refl & refl & refl & refl & refl & refl & refl & refl & refl & refl & refl & refl & refl & refl & refl & refl & refl & refl & refl & refl & refl & refl & refl & refl & refl & refl & refl & refl & refl & end)
         zero-le
         (omega (arith, ltb-true n 40 e))
     by false e =
         let l : 40 ≤ n = ltb-false n 40 e in
         rw (ne-eqb n 30 (λ e. omega arith), ne-eqb n 31 (λ e. omega arith), ne-eqb n 36 (λ e. omega arith))
-        (ap closes (unknown n k (omega arith)))
+        (ap (λ (y : Syllable). closes (turnOf y)) (unknown n k (omega arith)))
 
 -- How the code reads a syllable.
 syllable-small : (w l : ℕ) → syllableOf w l < 4096

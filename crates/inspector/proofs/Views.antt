@@ -15,23 +15,25 @@ use Rattle.inspector.specs.declared.shapes.Effect.{Effect}
 use Rattle.inspector.specs.declared.shapes.Effect.the-variants.{Puts}
 use Rattle.inspector.proofs.Stacks.{seen-shape}
 use Rattle.syllable.specs.ForCode.Numbered.{syllableNumbered}
+use Rattle.word.specs.Choices.{if_then_else_}
 
 pub item-literal : (x : ℕ) → x < 1024 → itemOf x ≡ literal x
-unfolding itemOf
-item-literal x h = ap (λ (s : Bool). elim s [ true ↦ literal x | false ↦ elim (eqb x 1024) [ true ↦ number | false ↦ place ] ]) (lt-ltb x 1024 h)
+unfolding itemOf if_then_else_
+item-literal x h = ap (λ (s : Bool). if s then literal x else if eqb x 1024 then number else place) (lt-ltb x 1024 h)
 
 -- An item that is no literal is a number or a place.
-item-other : (x : ℕ) → 1024 ≤ x → itemOf x ≡ elim (eqb x 1024) [ true ↦ number | false ↦ place ]
-unfolding itemOf
-item-other x h = ap (λ (s : Bool). elim s [ true ↦ literal x | false ↦ elim (eqb x 1024) [ true ↦ number | false ↦ place ] ]) (le-ltb x 1024 h)
+item-other : (x : ℕ) → 1024 ≤ x → itemOf x ≡ (if eqb x 1024 then number else place)
+unfolding itemOf if_then_else_
+item-other x h = ap (λ (s : Bool). if s then literal x else if eqb x 1024 then number else place) (le-ltb x 1024 h)
 
 pub aim-literal : (cells : List ℕ) (a : ℕ) → a < 1024 → (sheet : List ℕ) → Cells cells sheet → eqb (getD cells a 0) 3 ≡ writable sheet (itemOf a)
 aim-literal cells a h sheet c = ap (λ (k : ℕ). eqb k 3) (c .cell a h) ∙ sym (ap (writable sheet) (item-literal a h))
 
 pub aim-other : (cells : List ℕ) (a : ℕ) {r : Bool} → 1024 ≤ a → r ≡ not (eqb a 1024) → (sheet : List ℕ) → Cells cells sheet → r ≡ writable sheet (itemOf a)
+unfolding if_then_else_
 aim-other cells a h e sheet c = e ∙ by (eqb a 1024) ∙ sym (ap (writable sheet) (item-other a h))
   where
-    by : (b : Bool) → not b ≡ writable sheet (elim b [ true ↦ number | false ↦ place ])
+    by : (b : Bool) → not b ≡ writable sheet (if b then number else place)
     by true = refl
     by false = refl
 
@@ -71,15 +73,17 @@ top-of items (suc h) l =
     ap (λ (m : ℕ). itemOf (getD items m 0) ∷ shapeOf items m) e
 
 pub mark-empty : (items : List ℕ) (h : ℕ) → h ≡ 0 → Mark (leaves (shapeOf items h)) 0
-unfolding shapeOf
+unfolding shapeOf if_then_else_
 mark-empty items h e = record { empty = rw e; far = rw e }
 
 far-one : (k : ℕ) → k < 1024 → farOf (k + 1) ≡ k
+unfolding if_then_else_
 far-one k h =
     let m : k + 1 - 1 ≡ k = omega arith in
-    ap (λ (s : Bool). elim s [ true ↦ k + 1 - 1 | false ↦ 0 ]) (lt-ltb (k + 1) 1025 (omega arith)) ∙ m
+    ap (λ (s : Bool). if s then k + 1 - 1 else 0) (lt-ltb (k + 1) 1025 (omega arith)) ∙ m
 
 pub mark-literal : (items : List ℕ) (h : ℕ) {a : ℕ} → (h ≡ 0 → ⊥) → a ≡ getD items (h - 1) 0 → a < 1024 → Mark (leaves (shapeOf items h)) (a + 1)
+unfolding if_then_else_
 mark-literal items h {a} n e l =
     let s : shapeOf items h ≡ literal a ∷ shapeOf items (h - 1) =
     top-of items h (omega (arith, n)) ∙ ap (λ (x : ℕ). itemOf x ∷ shapeOf items (h - 1)) (sym e) ∙ ap (λ (i : Item). i ∷ shapeOf items (h - 1)) (item-literal a l) in
@@ -89,18 +93,19 @@ mark-literal items h {a} n e l =
     }
 
 pub mark-other : (items : List ℕ) (h : ℕ) {a : ℕ} → (h ≡ 0 → ⊥) → a ≡ getD items (h - 1) 0 → 1024 ≤ a → Mark (leaves (shapeOf items h)) 1025
+unfolding if_then_else_
 mark-other items h {a} n e l =
-    let s : shapeOf items h ≡ elim (eqb a 1024) [ true ↦ number | false ↦ place ] ∷ shapeOf items (h - 1) =
+    let s : shapeOf items h ≡ (if eqb a 1024 then number else place) ∷ shapeOf items (h - 1) =
     top-of items h (omega (arith, n)) ∙ ap (λ (x : ℕ). itemOf x ∷ shapeOf items (h - 1)) (sym e) ∙ ap (λ (i : Item). i ∷ shapeOf items (h - 1)) (item-other a l) in
     record {
       empty = by (eqb a 1024) ∙ sym (ap (λ (xs : Shape). isEmpty (leaves xs)) s);
       far = at (eqb a 1024) ∙ sym (ap (λ (xs : Shape). distance (leaves xs)) s);
     }
   where
-    by : (b : Bool) → false ≡ isEmpty (leaves (elim b [ true ↦ number | false ↦ place ] ∷ shapeOf items (h - 1)))
+    by : (b : Bool) → false ≡ isEmpty (leaves ((if b then number else place) ∷ shapeOf items (h - 1)))
     by true = refl
     by false = refl
 
-    at : (b : Bool) → 0 ≡ distance (leaves (elim b [ true ↦ number | false ↦ place ] ∷ shapeOf items (h - 1)))
+    at : (b : Bool) → 0 ≡ distance (leaves ((if b then number else place) ∷ shapeOf items (h - 1)))
     at true = refl
     at false = refl

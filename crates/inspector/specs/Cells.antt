@@ -1,14 +1,14 @@
 -- Rule 33: the named cells.
-use Prim.Native.Nat.{ℕ, zero, suc, _+_}
-use mathlib.Core.Bool.{Bool, true, false, not, _&&_, _||_}
+use Prim.Native.Nat.{ℕ, zero, suc}
+use mathlib.Core.Bool.{Bool, true, not, _&&_, _||_}
 use mathlib.Core.List.{List}
-use lib.Dec.{eqb, ltb, leb}
+use lib.Dec.{eqb}
 use lib.ListN.{length, getD}
-use Rattle.sheet.specs.Sheets.{codeOf, codeWordsOf, sOf, roomOf, rOf, tableOf, cellOf}
-use Rattle.inspector.specs.Areas.{meets}
-use Rattle.word.specs.Field.{bit}
-use Rattle.word.specs.Layout.{flagOf, presenceOf, sizeOf, addressOf}
-use Rattle.word.specs.Addresses.{tableStart, cellAddress}
+use Rattle.sheet.specs.Sheets.{rOf, cellOf}
+use Rattle.inspector.specs.Areas.{area, clearOf}
+use Rattle.word.specs.Arrays.{arrayIn}
+use Rattle.word.specs.Layout.{flagOf, sizeOf, addressOf}
+use Rattle.word.specs.Addresses.{cellAddress}
 
 -- All n words from a on have their flag off.
 unfoldable pub plainWords : List ℕ → ℕ → ℕ → Bool
@@ -18,11 +18,7 @@ plainWords core a (suc n) = not (flagOf (getD core a 0)) && plainWords core (suc
 -- "an array cell holds a present data descriptor, size over 0, area in core, meeting none of those three, all its words flag off"
 unfoldable pub arrayFits : List ℕ → List ℕ → ℕ → Bool
 arrayFits core sheet d =
-    flagOf d && not (bit d 1) && presenceOf d && ltb 0 (sizeOf d) && leb (addressOf d + sizeOf d) (length core)
-    && not (meets (addressOf d) (sizeOf d) (codeOf sheet) (codeWordsOf sheet))
-    && not (meets (addressOf d) (sizeOf d) (sOf sheet + 1) (roomOf sheet))
-    && not (meets (addressOf d) (sizeOf d) (tableStart (rOf sheet)) (tableOf sheet))
-    && plainWords core (addressOf d) (sizeOf d)
+    arrayIn (length core) d && clearOf sheet (area (addressOf d) (sizeOf d)) && plainWords core (addressOf d) (sizeOf d)
 
 -- "33, lowest named cell unfit: a number cell has its flag off"
 unfoldable pub unfit : List ℕ → List ℕ → ℕ → Bool

@@ -1,7 +1,10 @@
 pub mod Records
 pub mod Areas
 pub mod Cells
+pub mod Turns
 pub mod Scan
 pub mod Targets
+pub mod Rules
 pub mod Verdicts
+pub mod Examples
 pub mod ForCode

@@ -1,8 +1,8 @@
 -- Rule 34: the scan, an abstract run over shapes.
-use Prim.Native.Nat.{ℕ, zero, suc, _+_, _-_, _*_, _/_, _%_}
+use Prim.Native.Nat.{ℕ, zero, suc, _+_, _*_, _/_, _%_}
 use mathlib.Core.Bool.{Bool, true, false, not, _&&_, _||_}
 use mathlib.Core.List.{List, [], _∷_}
-use lib.Dec.{eqb, ltb, leb}
+use lib.Dec.{eqb, leb}
 use lib.ListN.{length, getD}
 use Rattle.sheet.specs.Sheets.{codeOf, codeWordsOf, roomOf, cellOf}
 use Rattle.syllable.specs.declared.Logic.{Logic as LogicGroup}
@@ -15,6 +15,8 @@ use Rattle.syllable.specs.declared.Syllable.{Syllable}
 use Rattle.syllable.specs.declared.Syllable.the-variants.{Litc, Opdc, Desc, Operator as Operates}
 use Rattle.syllable.specs.Decoding.{decodeOf}
 use Rattle.syllable.specs.Positions.{syllableOf}
+use Rattle.inspector.specs.Turns.{Turn, branches, communicates, neither, turnOf}
+use Rattle.word.specs.Choices.{if_then_else_}
 
 -- "items are literal k, number, place"; the top of a shape stands first.
 pub data Item : Type 0 where
@@ -50,7 +52,7 @@ writable sheet place = true
 abbrev pub calledOver : ℕ → Item → Shape → Left
 calledOver cell x [] = when (eqb cell 3) (x ∷ [])
 calledOver cell x (i ∷ xs) =
-    elim (eqb cell 3) [ true ↦ leaves (x ∷ i ∷ xs) | false ↦ when (eqb cell 4 && value i) (x ∷ xs) ]
+    if eqb cell 3 then leaves (x ∷ i ∷ xs) else when (eqb cell 4 && value i) (x ∷ xs)
 
 -- "over literals or numbers (all give numbers)": two items, one item.
 abbrev pub twoValues : Shape → Left
@@ -168,56 +170,28 @@ abbrev pub syllableAt : List ℕ → List ℕ → ℕ → Syllable
 syllableAt core sheet i = decodeOf (syllableOf (getD core (codeOf sheet + i / 4) 0) (i % 4))
 
 -- "Shapes start empty": the shape before syllable i.
-abbrev pub then : Left → (Shape → Left) → Left
-then (leaves xs) f = f xs
-then breaks f = breaks
+abbrev pub carried : Left → (Shape → Left) → Left
+carried (leaves xs) f = f xs
+carried breaks f = breaks
 
 unfoldable pub shapeAt : List ℕ → List ℕ → ℕ → Left
 shapeAt core sheet zero = leaves []
-shapeAt core sheet (suc i) = then (shapeAt core sheet i) (λ xs. within (roomOf sheet) (syllableLeft sheet (syllableAt core sheet i) xs))
+shapeAt core sheet (suc i) = carried (shapeAt core sheet i) (λ xs. within (roomOf sheet) (syllableLeft sheet (syllableAt core sheet i) xs))
 
 abbrev pub broken : Left → Bool
 broken (leaves xs) = false
 broken breaks = true
 
 -- "The last syllable is COM, BFW or BBW."
-abbrev pub closesBranch : BranchGroup → Bool
-closesBranch Bfw = true
-closesBranch Bbw = true
-closesBranch Bfc = false
-closesBranch Bbc = false
-
-abbrev pub closesOperator : Operator → Bool
-closesOperator (Arithmetic o) = false
-closesOperator (Relation o) = false
-closesOperator (Logic o) = false
-closesOperator (Branch o) = closesBranch o
-closesOperator Mop = false
-closesOperator Mds = false
-closesOperator Ssp = false
-closesOperator Ssn = false
-closesOperator Chs = false
-closesOperator Top = false
-closesOperator Xch = false
-closesOperator Dup = false
-closesOperator Del = false
-closesOperator Nop = false
-closesOperator Lod = false
-closesOperator Std = false
-closesOperator Snd = false
-closesOperator Inx = false
-closesOperator Mks = false
-closesOperator Xit = false
-closesOperator Com = true
-closesOperator (NotBuilt k) = false
-
-abbrev pub closes : Syllable → Bool
-closes (Litc k) = false
-closes (Opdc k) = false
-closes (Desc k) = false
-closes (Operates o) = closesOperator o
+abbrev pub closes : Turn → Bool
+closes (branches Bfw) = true
+closes (branches Bbw) = true
+closes (branches Bfc) = false
+closes (branches Bbc) = false
+closes communicates = true
+closes neither = false
 
 -- "34, first syllable breaking the scan."
 unfoldable pub breaksAt : List ℕ → List ℕ → ℕ → Bool
 breaksAt core sheet i =
-    broken (shapeAt core sheet (suc i)) || (eqb (suc i) (4 * codeWordsOf sheet) && not (closes (syllableAt core sheet i)))
+    broken (shapeAt core sheet (suc i)) || (eqb (suc i) (4 * codeWordsOf sheet) && not (closes (turnOf (syllableAt core sheet i))))

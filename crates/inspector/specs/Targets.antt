@@ -1,18 +1,14 @@
 -- Rule 35: the branches' targets.
-use Prim.Native.Nat.{ℕ, suc, _+_, _-_, _*_}
-use mathlib.Core.Bool.{Bool, true, false, not, _&&_, _||_}
+use Prim.Native.Nat.{ℕ, _+_, _-_, _*_}
+use mathlib.Core.Bool.{Bool, true, false, not, _&&_}
 use mathlib.Core.List.{List, [], _∷_}
 use lib.Dec.{ltb, leb}
 use Rattle.sheet.specs.Sheets.{codeOf, codeWordsOf}
-use Rattle.inspector.specs.Scan.{Item, literal, number, place, Shape, Left, leaves, breaks, syllableAt, shapeAt}
+use Rattle.inspector.specs.Scan.{literal, number, place, Left, leaves, breaks, syllableAt, shapeAt}
 use Rattle.machine.specs.Outcomes.{Res, on, halt}
 use Rattle.machine.specs.Branches.{landingOf}
-use Rattle.syllable.specs.declared.Branch.{Branch as BranchGroup}
+use Rattle.inspector.specs.Turns.{Turn, branches, communicates, neither, turnOf}
 use Rattle.syllable.specs.declared.Branch.the-variants.{Bfw, Bbw, Bfc, Bbc}
-use Rattle.syllable.specs.declared.Operator.{Operator}
-use Rattle.syllable.specs.declared.Operator.the-variants.{Arithmetic, Relation, Logic, Branch, Mop, Mds, Ssp, Ssn, Chs, Top, Xch, Dup, Del, Nop, Lod, Std, Snd, Inx, Mks, Xit, Com, NotBuilt}
-use Rattle.syllable.specs.declared.Syllable.{Syllable}
-use Rattle.syllable.specs.declared.Syllable.the-variants.{Litc, Opdc, Desc, Operator as Operates}
 use Rattle.syllable.specs.Positions.{nextOf}
 
 abbrev pub isEmpty : Left → Bool
@@ -42,42 +38,14 @@ abbrev pub misses : List ℕ → List ℕ → ℕ → Bool → Bool
 misses core sheet i back =
     missesAt core sheet (landingOf back (nextOf (4 * codeOf sheet + i)) (distance (shapeAt core sheet i)))
 
-abbrev pub branchMisses : List ℕ → List ℕ → ℕ → BranchGroup → Bool
-branchMisses core sheet i Bfw = misses core sheet i false
-branchMisses core sheet i Bbw = misses core sheet i true
-branchMisses core sheet i Bfc = misses core sheet i false
-branchMisses core sheet i Bbc = misses core sheet i true
-
-abbrev pub operatorMisses : List ℕ → List ℕ → ℕ → Operator → Bool
-operatorMisses core sheet i (Arithmetic o) = false
-operatorMisses core sheet i (Relation o) = false
-operatorMisses core sheet i (Logic o) = false
-operatorMisses core sheet i (Branch o) = branchMisses core sheet i o
-operatorMisses core sheet i Mop = false
-operatorMisses core sheet i Mds = false
-operatorMisses core sheet i Ssp = false
-operatorMisses core sheet i Ssn = false
-operatorMisses core sheet i Chs = false
-operatorMisses core sheet i Top = false
-operatorMisses core sheet i Xch = false
-operatorMisses core sheet i Dup = false
-operatorMisses core sheet i Del = false
-operatorMisses core sheet i Nop = false
-operatorMisses core sheet i Lod = false
-operatorMisses core sheet i Std = false
-operatorMisses core sheet i Snd = false
-operatorMisses core sheet i Inx = false
-operatorMisses core sheet i Mks = false
-operatorMisses core sheet i Xit = false
-operatorMisses core sheet i Com = false
-operatorMisses core sheet i (NotBuilt k) = false
-
-abbrev pub syllableMisses : List ℕ → List ℕ → ℕ → Syllable → Bool
-syllableMisses core sheet i (Litc k) = false
-syllableMisses core sheet i (Opdc k) = false
-syllableMisses core sheet i (Desc k) = false
-syllableMisses core sheet i (Operates o) = operatorMisses core sheet i o
+abbrev pub turnMisses : List ℕ → List ℕ → ℕ → Turn → Bool
+turnMisses core sheet i (branches Bfw) = misses core sheet i false
+turnMisses core sheet i (branches Bbw) = misses core sheet i true
+turnMisses core sheet i (branches Bfc) = misses core sheet i false
+turnMisses core sheet i (branches Bbc) = misses core sheet i true
+turnMisses core sheet i communicates = false
+turnMisses core sheet i neither = false
 
 -- "35, lowest branch whose target, counted as the machine counts it, is outside the code or has a shape not empty."
 unfoldable pub missesTarget : List ℕ → List ℕ → ℕ → Bool
-missesTarget core sheet i = syllableMisses core sheet i (syllableAt core sheet i)
+missesTarget core sheet i = turnMisses core sheet i (turnOf (syllableAt core sheet i))

@@ -7,14 +7,14 @@ use crate::verdict::Find;
 ghost use mathlib.Core.Path.{_≡_};
 ghost use lib.ListN.{length};
 ghost use Prim.Native.Nat.{_≤_};
-ghost use Rattle.inspector.specs.Areas.{meets as meetsOf, astray as astrayOf};
+ghost use Rattle.inspector.specs.Areas.{area, meets as meetsOf, astray as astrayOf};
 ghost use Rattle.inspector.specs.Verdicts.{lowest};
 ghost use Rattle.inspector.specs.ForCode.Forms.{foundOf};
 
 // The n words from a and the m words from b have a word in common.
 pub fn meets(a: u32, n: u16, b: u32, m: u16) -> bool
     requires { ⌜ (a ≤ 16777216) × (b ≤ 16777216) ⌝ }
-    ensures { λ r. ⌜ r ≡ meetsOf a n b m ⌝ }
+    ensures { λ r. ⌜ r ≡ meetsOf (area a n) (area b m) ⌝ }
 {
     both(both(both(0 < n, 0 < m), a < b + m as u32), b < a + n as u32)
 }
@@ -35,7 +35,7 @@ fn stack_astray(core: &[u64], sheet: &[u8]) -> bool
     let code = first(sheet, 0);
     let words = count(sheet, 0);
     let meeting = meets(s as u32 + 1, room, code as u32, words);
-    either(core.len() <= s as usize + room as usize, meeting)
+    either(core.len() < s as usize + 1 + room as usize, meeting)
 }
 
 fn table_astray(core: &[u64], sheet: &[u8]) -> bool

@@ -10,11 +10,11 @@ ghost use mathlib.Core.Path.{_≡_};
 ghost use mathlib.Core.Bool.{not};
 ghost use Prim.Native.Nat.{_+_, _*_, _≤_};
 ghost use lib.ListN.{length, getD, set, replicate};
-ghost use Rattle.sheet.specs.Sheets.{entries, codeOf, codeWordsOf, sOf, roomOf, rOf, tableOf, cellOf};
-ghost use Rattle.inspector.specs.Areas.{meets as meetsOf};
+ghost use Rattle.sheet.specs.Sheets.{entries, tableOf, cellOf};
+ghost use Rattle.inspector.specs.Areas.{area, codeArea, stackArea, tableArea, meets as meetsOf, clearOf};
 ghost use Rattle.inspector.specs.Cells.{plainWords, arrayFits, unfit as unfitOf};
 ghost use Rattle.inspector.specs.Verdicts.{lowest};
-ghost use Rattle.inspector.specs.ForCode.Forms.{foundOf, Painted, Cells, namedOf, clearOf};
+ghost use Rattle.inspector.specs.ForCode.Forms.{foundOf, Painted, Cells};
 
 // The word at an address, and 0 outside core.
 pub fn word_at(core: &[u64], at: usize) -> u64
@@ -77,22 +77,9 @@ fn plain_words(core: &[u64], a: u16, n: u16) -> bool
     true
 }
 
-// A present data descriptor of size over 0.
-fn named(d: u64) -> bool
-    ensures { λ r. ⌜ r ≡ namedOf d ⌝ }
-{
-    both(
-        both(
-            both(word::flag(d), negated(word::sign(d))),
-            word::presence(d),
-        ),
-        0 < word::size(d),
-    )
-}
-
 // The n words from a on meet no code word.
 fn clear_of_code(sheet: &[u8], a: u16, n: u16) -> bool
-    ensures { λ r. ⌜ r ≡ not (meetsOf a n (codeOf (now (sheet .entry))) (codeWordsOf (now (sheet .entry)))) ⌝ }
+    ensures { λ r. ⌜ r ≡ not (meetsOf (area a n) (codeArea (now (sheet .entry)))) ⌝ }
 {
     let code = first(sheet, 0);
     let words = count(sheet, 0);
@@ -101,7 +88,7 @@ fn clear_of_code(sheet: &[u8], a: u16, n: u16) -> bool
 
 // The n words from a on meet no word of the stack's room.
 fn clear_of_stack(sheet: &[u8], a: u16, n: u16) -> bool
-    ensures { λ r. ⌜ r ≡ not (meetsOf a n (sOf (now (sheet .entry)) + 1) (roomOf (now (sheet .entry)))) ⌝ }
+    ensures { λ r. ⌜ r ≡ not (meetsOf (area a n) (stackArea (now (sheet .entry)))) ⌝ }
 {
     let s = first(sheet, 1);
     let room = count(sheet, 1);
@@ -110,22 +97,21 @@ fn clear_of_stack(sheet: &[u8], a: u16, n: u16) -> bool
 
 // The n words from a on meet no cell of the table.
 fn clear_of_table(sheet: &[u8], a: u16, n: u16) -> bool
-    ensures { λ r. ⌜ r ≡ not (meetsOf a n (64 * rOf (now (sheet .entry))) (tableOf (now (sheet .entry)))) ⌝ }
+    ensures { λ r. ⌜ r ≡ not (meetsOf (area a n) (tableArea (now (sheet .entry)))) ⌝ }
 {
     let r = first(sheet, 2);
     let table = count(sheet, 2);
     negated(meets(a as u32, n, 64 * r as u32, table))
 }
 
-// An array's area is in core, and meets none of the three stretches.
-fn clear(core: &[u64], sheet: &[u8], a: u16, n: u16) -> bool
-    ensures { λ r. ⌜ r ≡ clearOf (now (core .entry)) (now (sheet .entry)) a n ⌝ }
+// The n words from a on meet none of the three stretches.
+fn clear(sheet: &[u8], a: u16, n: u16) -> bool
+    ensures { λ r. ⌜ r ≡ clearOf (now (sheet .entry)) (area a n) ⌝ }
 {
-    let end = a as usize + n as usize;
     let code = clear_of_code(sheet, a, n);
     let stack = clear_of_stack(sheet, a, n);
     let table = clear_of_table(sheet, a, n);
-    both(both(both(end <= core.len(), code), stack), table)
+    both(both(code, stack), table)
 }
 
 fn array_fits(core: &[u64], sheet: &[u8], d: u64) -> bool
@@ -133,7 +119,7 @@ fn array_fits(core: &[u64], sheet: &[u8], d: u64) -> bool
 {
     let a = word::address(d);
     let n = word::size(d);
-    if both(named(d), clear(core, sheet, a, n)) {
+    if both(word::array_in(core.len(), d), clear(sheet, a, n)) {
         return plain_words(core, a, n);
     }
     false

@@ -16,6 +16,7 @@ ghost use mathlib.Core.Bool.{_&&_, not};
 ghost use Prim.Native.Nat.{ℕ, _+_, _/_, _%_, _≤_, _<_};
 ghost use lib.Dec.{eqb};
 ghost use lib.ListN.{length, getD};
+ghost use Rattle.inspector.specs.Turns.{turnOf};
 ghost use Rattle.inspector.specs.Scan.{leaves, writable as writableOf, syllableLeft, closes as closesOf};
 ghost use Rattle.inspector.specs.ForCode.Forms.{itemOf, shapeOf, Cells, Became, Mark, Ready, Scans};
 ghost use Rattle.syllable.specs.Decoding.{decodeOf};
@@ -93,14 +94,14 @@ fn mark_of(items: &[u16], h: u16) -> u16
 
 // "The last syllable is COM, BFW or BBW."
 fn closes(n: u8) -> bool
-    ensures { λ r. ⌜ ((k : ℕ) → r ≡ closesOf (syllableNumbered n k)) ⌝ }
+    ensures { λ r. ⌜ ((k : ℕ) → r ≡ closesOf (turnOf (syllableNumbered n k))) ⌝ }
 {
     either(either(n == 30, n == 31), n == 36)
 }
 
 // The last of so many syllables, and no closing one.
 fn unclosed(i: u16, words: u16, n: u8) -> bool
-    ensures { λ r. ⌜ ((k : ℕ) → r ≡ (eqb i words && not (closesOf (syllableNumbered n k)))) ⌝ }
+    ensures { λ r. ⌜ ((k : ℕ) → r ≡ (eqb i words && not (closesOf (turnOf (syllableNumbered n k))))) ⌝ }
 {
     both(i == words, negated(closes(n)))
 }

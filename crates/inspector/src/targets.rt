@@ -10,7 +10,8 @@ ghost use mathlib.Core.List.{List};
 ghost use Prim.Native.Nat.{ℕ, _+_, _*_, _≤_, _<_};
 ghost use lib.ListN.{length};
 ghost use Rattle.sheet.specs.Sheets.{codeWordsOf};
-ghost use Rattle.inspector.specs.Targets.{lands as landsOf, misses as missesOf, syllableMisses, missesTarget};
+ghost use Rattle.inspector.specs.Targets.{lands as landsOf, misses as missesOf, turnMisses, missesTarget};
+ghost use Rattle.inspector.specs.Turns.{turnOf};
 ghost use Rattle.inspector.specs.Verdicts.{lowest};
 ghost use Rattle.inspector.specs.ForCode.Forms.{foundOf, farOf, landOf, Aimed, Lent};
 ghost use Rattle.machine.specs.Branches.{landingOf};
@@ -83,7 +84,7 @@ fn misses(marks: &[u16], code: u16, words: u16, i: u16, back: bool) -> bool
 // The syllable with an operator number n is a branch that misses.
 fn missed(marks: &[u16], code: u16, words: u16, i: u16, n: u8) -> bool
     requires { ⌜ (4 * words ≤ length (now marks)) × (i < 4 * words) ⌝ }
-    ensures { λ r. ⌜ ((core sheet : List ℕ) (k : ℕ) → Aimed core sheet (now (marks .entry)) code words → r ≡ syllableMisses core sheet i (syllableNumbered n k)) ⌝ }
+    ensures { λ r. ⌜ ((core sheet : List ℕ) (k : ℕ) → Aimed core sheet (now (marks .entry)) code words → r ≡ turnMisses core sheet i (turnOf (syllableNumbered n k))) ⌝ }
 {
     match n {
         30 => misses(marks, code, words, i, false),

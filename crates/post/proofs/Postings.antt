@@ -1,8 +1,8 @@
 -- What a posting is, by the inspector's answer and the budget; and its guarantees, from demand 3.
-use Prim.Native.Nat.{ℕ, suc, _+_, _*_, _<_, _≤_}
+use Prim.Native.Nat.{ℕ, _<_, _≤_}
 use mathlib.Core.Path.{_≡_, refl, sym, _∙_, ap}
 use mathlib.Core.Logic.{_≢_}
-use mathlib.Core.Bool.{Bool, true, false, not, true≢false}
+use mathlib.Core.Bool.{Bool, true, false, true≢false}
 use mathlib.Core.List.{List}
 use native.Mathlib.Omega.{arith}
 use borrow.Author.Tests.{eq-eqb, ne-eqb, eqb-true, le-leb, lt-leb, leb-true}
@@ -12,51 +12,15 @@ use Rattle.word.specs.Choices.{if_then_else_}
 use Rattle.machine.specs.Steps.{refusalOf}
 use Rattle.machine.specs.Runs.{Run, runFrom, runOf}
 use Rattle.inspector.specs.declared.verdict.Verdict.{Verdict}
-use Rattle.sheet.specs.Sheets.{entries, codeOf, codeWordsOf, sOf, rOf, tableOf}
-use Rattle.inspector.specs.Areas.{astray}
-use Rattle.inspector.specs.Cells.{unfit}
-use Rattle.inspector.specs.Scan.{breaksAt}
-use Rattle.inspector.specs.Targets.{missesTarget}
-use Rattle.inspector.specs.Verdicts.{Found, at, nowhere, lowest, given, blamed, refused, verdictOf}
-use Rattle.word.specs.Core.{lengthFits, wordsFit}
+use Rattle.sheet.specs.Sheets.{codeOf, sOf, rOf}
+use Rattle.inspector.specs.Verdicts.{given, verdictOf}
 use Rattle.laws.proofs.FitRuns.{run-fit}
 use Rattle.demands.specs.Stays.{startOf}
 use Rattle.demands.specs.Leaves.{Leaves}
 use Rattle.demands.proofs.Checked.{run-leaves, start-passes}
 use Rattle.demands.proofs.Demand3.{demand3}
+use Rattle.demands.proofs.Exact.{zero-given}
 use Rattle.post.specs.Posting.{Posting, turnedAway, ran, within, judged, postOf, Guarantees, Posts}
-use Rattle.inspector.specs.Records.{sheetFits, recordGood}
-
--- ---- an answer of 0 is at place 0
-
-Zero : Verdict → Type 0
-Zero v = v .number ≡ 0 → v ≡ given 0 0
-
-zero-refused : (n : ℕ) (b : Bool) (rest : Verdict) → Zero rest → Zero (refused (suc n) b rest)
-unfolding Zero
-zero-refused n true rest h = h
-zero-refused n false rest h = λ e. absurd (omega arith)
-
-zero-blamed : (n : ℕ) (f : Found) (rest : Verdict) → Zero rest → Zero (blamed (suc n) f rest)
-unfolding Zero
-zero-blamed n (at p) rest h = λ e. absurd (omega arith)
-zero-blamed n nowhere rest h = h
-
-zero-given : Zero (given 0 0)
-unfolding Zero
-zero-given = λ e. refl
-
-pub passes : (core sheet : List ℕ) → verdictOf core sheet .number ≡ 0 → verdictOf core sheet ≡ given 0 0
-unfolding Zero verdictOf
-passes core sheet =
-    zero-refused 0 (lengthFits core) _
-    (zero-refused 1 (wordsFit core) _
-    (zero-refused 29 (sheetFits sheet) _
-    (zero-blamed 30 (lowest (λ i. not (recordGood sheet i)) (entries sheet) 0) _
-    (zero-blamed 31 (lowest (astray core sheet) 3 0) _
-    (zero-blamed 32 (lowest (unfit core sheet) (tableOf sheet) 0) _
-    (zero-blamed 33 (lowest (breaksAt core sheet) (4 * codeWordsOf sheet) 0) _
-    (zero-blamed 34 (lowest (missesTarget core sheet) (4 * codeWordsOf sheet) 0) _ zero-given)))))))
 
 -- ---- the guarantees
 
@@ -73,7 +37,7 @@ pub guarantees : (core sheet : List ℕ) (budget : ℕ) → Guarantees core shee
 unfolding postOf
 guarantees core sheet budget =
     guard core sheet budget (eqb (verdictOf core sheet .number) 0) (verdictOf core sheet)
-    (λ t. passes core sheet (eqb-true (verdictOf core sheet .number) 0 t))
+    (λ t. zero-given core sheet (eqb-true (verdictOf core sheet .number) 0 t))
     (λ t e. true≢false (sym (eq-eqb (verdictOf core sheet .number) 0 e) ∙ t))
 
 pub posts : (core sheet : List ℕ) (budget : ℕ) {r : Posting} → r ≡ postOf core sheet budget → Posts core sheet budget r
@@ -93,7 +57,7 @@ module _ (core sheet : List ℕ) (budget : ℕ) {v : Verdict} (e : v ≡ verdict
   run-start : v .number ≡ 0 → budget ≤ 1000000 → runOf core (startOf core sheet .regs) budget ≡ runFrom budget (startOf core sheet)
   unfolding runOf if_then_else_
   run-start z h =
-      rw (eq-eqb (refusalOf core (startOf core sheet .regs)) 0 (start-passes core sheet (passes core sheet (ap (λ (x : Verdict). x .number) (sym e) ∙ z))), le-leb budget 1000000 h)
+      rw (eq-eqb (refusalOf core (startOf core sheet .regs)) 0 (start-passes core sheet (zero-given core sheet (ap (λ (x : Verdict). x .number) (sym e) ∙ z))), le-leb budget 1000000 h)
 
   pub post-ran : {g : Registers} {r : Run} → g ≡ startOf core sheet .regs → v .number ≡ 0 → budget ≤ 1000000 → r ≡ runOf core g budget → ran r ≡ postOf core sheet budget
   unfolding postOf
@@ -122,5 +86,5 @@ pub post-fit : (core sheet : List ℕ) (budget : ℕ) → postOf core sheet budg
 unfolding postOf
 post-fit core sheet budget =
     fit core sheet budget (eqb (verdictOf core sheet .number) 0) (verdictOf core sheet)
-    (λ t. passes core sheet (eqb-true (verdictOf core sheet .number) 0 t))
+    (λ t. zero-given core sheet (eqb-true (verdictOf core sheet .number) 0 t))
     (λ t e. true≢false (sym (eq-eqb (verdictOf core sheet .number) 0 e) ∙ t))

@@ -6,5 +6,6 @@ pub mod Backs
 pub mod Kinds
 pub mod Numbers
 pub mod Addresses
+pub mod Arrays
 pub mod Digits
 pub mod Core

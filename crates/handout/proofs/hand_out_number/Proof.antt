@@ -1,4 +1,4 @@
--- Each way out is a row of numberOf.
+-- Each way out is a row of handOutNumber.
 use mathlib.Core.Path.{sym, _∙_}
 use Rattle.handout.proofs.Numbers.{number-length, number-words, number-r, number-cell, number-out, number-unfit, number-fits}
 use borrow.Author.Needs.{needs}
@@ -17,20 +17,20 @@ mul-at c = search needs
 add-at : tie.Need-add-at
 add-at c = search needs
 
-mul-array-fits : tie.Need-mul-array-fits
-mul-array-fits c = search needs
+mul-array-in : tie.Need-mul-array-in
+mul-array-in c = search needs
 
-shared-slice-read-array-fits : tie.Need-shared-slice-read-array-fits
-shared-slice-read-array-fits c = search needs
+shared-slice-read-array-in : tie.Need-shared-slice-read-array-in
+shared-slice-read-array-in c = search needs
 
-array-fits-requires : tie.Need-array-fits-requires
-array-fits-requires c κs = search needs
+array-in-requires : tie.Need-array-in-requires
+array-in-requires c κs = search needs
 
 returns : tie.Need-returns
-returns c = number-fits _ _ _ (sym (c .before .before .before .before .before .before .before .before .before .length-fits .ensures) ∙ c .before .before .before .before .before .before .before .before .if1 .taken) (sym (c .before .before .before .before .before .before .before .words-fit .ensures) ∙ c .before .before .before .before .before .before .if2 .taken) (c .before .before .before .before .before .if3 .taken) (c .before .before .before .before .if4 .taken) (c .before .before .before .if5 .taken) (sym (c .before .array-fits .ensures) ∙ c .if6 .taken)
+returns c = number-fits _ _ _ (sym (c .before .before .before .before .before .before .before .before .before .length-fits .ensures) ∙ c .before .before .before .before .before .before .before .before .if1 .taken) (sym (c .before .before .before .before .before .before .before .words-fit .ensures) ∙ c .before .before .before .before .before .before .if2 .taken) (c .before .before .before .before .before .if3 .taken) (c .before .before .before .before .if4 .taken) (c .before .before .before .if5 .taken) (sym (c .before .array-in .ensures) ∙ c .if6 .taken)
 
 returns-2 : tie.Need-returns-2
-returns-2 c = number-unfit _ _ _ (sym (c .before .before .before .before .before .before .before .before .before .length-fits .ensures) ∙ c .before .before .before .before .before .before .before .before .if1 .taken) (sym (c .before .before .before .before .before .before .before .words-fit .ensures) ∙ c .before .before .before .before .before .before .if2 .taken) (c .before .before .before .before .before .if3 .taken) (c .before .before .before .before .if4 .taken) (c .before .before .before .if5 .taken) (sym (c .before .array-fits .ensures) ∙ c .if6 .left)
+returns-2 c = number-unfit _ _ _ (sym (c .before .before .before .before .before .before .before .before .before .length-fits .ensures) ∙ c .before .before .before .before .before .before .before .before .if1 .taken) (sym (c .before .before .before .before .before .before .before .words-fit .ensures) ∙ c .before .before .before .before .before .before .if2 .taken) (c .before .before .before .before .before .if3 .taken) (c .before .before .before .before .if4 .taken) (c .before .before .before .if5 .taken) (sym (c .before .array-in .ensures) ∙ c .if6 .left)
 
 returns-3 : tie.Need-returns-3
 returns-3 c = number-out _ _ _ (sym (c .before .before .before .before .before .before .length-fits .ensures) ∙ c .before .before .before .before .before .if1 .taken) (sym (c .before .before .before .before .words-fit .ensures) ∙ c .before .before .before .if2 .taken) (c .before .before .if3 .taken) (c .before .if4 .taken) (c .if5 .left)
@@ -55,9 +55,9 @@ hand-out-number-spec =
     words-fit-requires
     mul-at
     add-at
-    mul-array-fits
-    shared-slice-read-array-fits
-    array-fits-requires
+    mul-array-in
+    shared-slice-read-array-in
+    array-in-requires
     returns
     returns-2
     returns-3

@@ -1,7 +1,7 @@
 -- How the code holds what the definitions speak of: findings, the kinds of the cells, items, shapes and what is done to them.
 use Prim.Native.Nat.{ℕ, zero, suc, _+_, _-_, _*_, _≤_, _<_}
 use mathlib.Core.Path.{_≡_}
-use mathlib.Core.Bool.{Bool, true, false, not, _&&_}
+use mathlib.Core.Bool.{Bool, true, false, _&&_}
 use mathlib.Core.List.{List, [], _∷_}
 use lib.Dec.{eqb, ltb, leb}
 use lib.ListN.{length, getD, drop}
@@ -14,18 +14,15 @@ use Rattle.inspector.specs.declared.shapes.Effect.{Effect}
 use Rattle.inspector.specs.declared.shapes.Effect.the-variants.{Drops, Puts, Swaps, Breaks}
 use Rattle.inspector.specs.declared.shapes.Scanned.{Scanned}
 use Rattle.inspector.specs.declared.shapes.Scanned.the-variants.{Height, Broken}
-use Rattle.inspector.specs.Verdicts.{Found, at, nowhere, lowest, given, blamed}
-use Rattle.sheet.specs.Sheets.{entries, codeOf, codeWordsOf, sOf, roomOf, rOf, tableOf, cellOf}
-use Rattle.inspector.specs.Areas.{meets, astray}
-use Rattle.inspector.specs.Cells.{unfit}
+use Rattle.inspector.specs.Verdicts.{Found, at, nowhere, lowest, answerOf}
+use Rattle.sheet.specs.Sheets.{entries, codeOf, codeWordsOf, roomOf, tableOf, cellOf}
+use Rattle.inspector.specs.Rules.{rules}
 use Rattle.inspector.specs.Scan.{Item, literal, number, place, Shape, Left, leaves, breaks, exchanged, writable, within, shapeAt, breaksAt}
-use Rattle.inspector.specs.Targets.{isEmpty, distance, missesTarget}
+use Rattle.inspector.specs.Targets.{isEmpty, distance}
 use Rattle.machine.specs.Outcomes.{Res, on, halt}
 use Rattle.machine.specs.declared.outcome.Cause.the-variants.{Address}
 use Rattle.syllable.specs.Numbers.{operatorNumbers as numbersOf}
-use Rattle.word.specs.Field.{bit}
-use Rattle.word.specs.Layout.{flagOf, presenceOf, sizeOf}
-use Rattle.inspector.specs.Records.{recordGood}
+use Rattle.word.specs.Choices.{if_then_else_}
 
 abbrev pub foundOf : Find → Found
 foundOf (At p) = at p
@@ -33,7 +30,7 @@ foundOf Nowhere = nowhere
 
 -- What cell c is after n cells from a on were given a kind.
 abbrev pub painted : ℕ → ℕ → ℕ → ℕ → ℕ → ℕ
-painted a n kind old c = elim (leb a c && ltb c (a + n)) [ true ↦ kind | false ↦ old ]
+painted a n kind old c = if leb a c && ltb c (a + n) then kind else old
 
 pub record Painted (a n kind : ℕ) (old new : List ℕ) : Type 0 where
   pub sized : length new ≡ 1024
@@ -44,19 +41,9 @@ pub record Cells (cells sheet : List ℕ) : Type 0 where
   pub sized : length cells ≡ 1024
   pub cell : (c : ℕ) → c < 1024 → getD cells c 0 ≡ cellOf sheet c
 
--- The first half of an array cell's rule: of its descriptor; and of its area.
-abbrev pub namedOf : ℕ → Bool
-namedOf d = flagOf d && not (bit d 1) && presenceOf d && ltb 0 (sizeOf d)
-
-abbrev pub clearOf : List ℕ → List ℕ → ℕ → ℕ → Bool
-clearOf core sheet a n =
-    leb (a + n) (length core) && not (meets a n (codeOf sheet) (codeWordsOf sheet))
-    && not (meets a n (sOf sheet + 1) (roomOf sheet))
-    && not (meets a n (64 * rOf sheet) (tableOf sheet))
-
 -- An item as a number: a literal is itself, 1,024 a number, all else a place.
 unfoldable pub itemOf : ℕ → Item
-itemOf x = elim (ltb x 1024) [ true ↦ literal x | false ↦ elim (eqb x 1024) [ true ↦ number | false ↦ place ] ]
+itemOf x = if ltb x 1024 then literal x else if eqb x 1024 then number else place
 
 -- The shape of the h first items of a list, the last of them its top.
 unfoldable pub shapeOf : List ℕ → ℕ → Shape
@@ -101,7 +88,7 @@ pub record Became (room : ℕ) (items new : List ℕ) (r : Scanned) (left : Left
 
 -- The mark of a shape: 0 of an empty one, k + 1 of one with the literal k on top, 1,025 of the others. How far a branch on it goes.
 abbrev pub farOf : ℕ → ℕ
-farOf m = elim (ltb m 1025) [ true ↦ m - 1 | false ↦ 0 ]
+farOf m = if ltb m 1025 then m - 1 else 0
 
 pub record Mark (s : Left) (m : ℕ) : Type 0 where
   pub empty : eqb m 0 ≡ isEmpty s
@@ -154,17 +141,12 @@ pub record SheetRanged (sheet : List ℕ) : Type 0 where
   pub room : roomOf sheet ≤ 1024
   pub table : tableOf sheet ≤ 1024
 
--- The answer of the rules 34 and 35, and of the rules from 33 on.
-abbrev pub flowOf : List ℕ → List ℕ → Verdict
-flowOf core sheet =
-    blamed 34 (lowest (breaksAt core sheet) (4 * codeWordsOf sheet) 0)
-    (blamed 35 (lowest (missesTarget core sheet) (4 * codeWordsOf sheet) 0) (given 0 0))
+-- The answer of the rules from 31, from 33 and from 34 on.
+abbrev pub recordsOf : List ℕ → List ℕ → Verdict
+recordsOf core sheet = answerOf (drop 3 (rules core sheet))
 
 abbrev pub cellsOnOf : List ℕ → List ℕ → Verdict
-cellsOnOf core sheet = blamed 33 (lowest (unfit core sheet) (tableOf sheet) 0) (flowOf core sheet)
+cellsOnOf core sheet = answerOf (drop 5 (rules core sheet))
 
--- The answer of the rules from 31 on.
-abbrev pub recordsOf : List ℕ → List ℕ → Verdict
-recordsOf core sheet =
-    blamed 31 (lowest (λ (i : ℕ). not (recordGood sheet i)) (entries sheet) 0)
-    (blamed 32 (lowest (astray core sheet) 3 0) (cellsOnOf core sheet))
+abbrev pub flowOf : List ℕ → List ℕ → Verdict
+flowOf core sheet = answerOf (drop 6 (rules core sheet))

@@ -55,6 +55,9 @@ add-either : tie.Need-add-either
 add-either c = search needs
 
 -- src/areas.rt:38:5
+add-either-2 : tie.Need-add-either-2
+add-either-2 c = search needs
+
 either-requires : tie.Need-either-requires
 either-requires c κs = search needs
 
@@ -76,7 +79,8 @@ stack-astray-spec =
     cast-meets-2
     meets-requires
     cast-either
-    cast-either-2
     add-either
+    cast-either-2
+    add-either-2
     either-requires
     returns)

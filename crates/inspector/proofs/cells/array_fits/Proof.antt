@@ -6,7 +6,6 @@ use Rattle.inspector.proofs.cells.array_fits.Tie as tie
 use Rattle.inspector.proofs.cells.array_fits.Reads as reads
 use Rattle.inspector.proofs.cells.array_fits.Lts as lts
 use Rattle.inspector.proofs.cells.clear.Reads as clear-reads
-use Rattle.inspector.proofs.cells.named.Reads as named-reads
 use Rattle.inspector.proofs.cells.plain_words.Reads as plain-words-reads
 use Rattle.inspector.proofs.tests.both.Reads as both-reads
 use Rattle.word.proofs.address.Reads as address-reads
@@ -21,8 +20,8 @@ size-requires : tie.Need-size-requires
 size-requires c κs = search needs
 
 -- src/cells.rt:100:13
-named-requires : tie.Need-named-requires
-named-requires c κs = search needs
+array-in-requires : tie.Need-array-in-requires
+array-in-requires c κs = search needs
 
 -- src/cells.rt:100:23
 clear-requires : tie.Need-clear-requires
@@ -38,11 +37,11 @@ plain-words-requires c κs = search needs
 
 -- src/cells.rt:101:9
 returns : tie.Need-returns
-returns c = array-yes _ _ _ _ _ (c .before .before .before .before .before .before .address .ensures) (c .before .before .before .before .before .size .ensures) (c .before .before .before .before .named .ensures) (c .before .before .before .clear .ensures) (c .before .before .both .ensures) (c .before .if1 .taken) (c .plain-words .ensures)
+returns c = array-yes _ _ _ _ _ (c .before .before .before .before .before .before .address .ensures) (c .before .before .before .before .before .size .ensures) (c .before .before .before .before .array-in .ensures) (c .before .before .before .clear .ensures) (c .before .before .both .ensures) (c .before .if1 .taken) (c .plain-words .ensures)
 
 -- src/cells.rt:95:1
 returns-2 : tie.Need-returns-2
-returns-2 c = array-no _ _ _ _ _ (c .before .before .before .before .before .address .ensures) (c .before .before .before .before .size .ensures) (c .before .before .before .named .ensures) (c .before .before .clear .ensures) (c .before .both .ensures) (c .if1 .left)
+returns-2 c = array-no _ _ _ _ _ (c .before .before .before .before .before .address .ensures) (c .before .before .before .before .size .ensures) (c .before .before .before .array-in .ensures) (c .before .before .clear .ensures) (c .before .both .ensures) (c .if1 .left)
 
 pub array-fits-spec : {M : Type 1} → statement M
 array-fits-spec =
@@ -50,7 +49,7 @@ array-fits-spec =
     (tie.spec
     address-requires
     size-requires
-    named-requires
+    array-in-requires
     clear-requires
     both-requires
     plain-words-requires

@@ -1,7 +1,3 @@
-use Prim.Native.Nat.{_+_}
-use lib.Dec.{leb}
-use lib.ListN.{length}
-use Rattle.inspector.proofs.Arrays.{chained}
 use mathlib.Core.Path.{refl, sym, _∙_, ap}
 use borrow.Author.Needs.{needs}
 use Rattle.inspector.proofs.cells.clear.Statement.{statement}
@@ -12,10 +8,6 @@ use Rattle.inspector.proofs.cells.clear_of_code.Reads as clear-of-code-
 use Rattle.inspector.proofs.cells.clear_of_stack.Reads as clear-of-stack-reads
 use Rattle.inspector.proofs.cells.clear_of_table.Reads as clear-of-table-reads
 use Rattle.inspector.proofs.tests.both.Reads as both-reads
-
--- src/cells.rt:117:15
-add-end : tie.Need-add-end
-add-end c = search needs
 
 -- src/cells.rt:118:9
 clear-of-code-requires : tie.Need-clear-of-code-requires
@@ -37,23 +29,17 @@ both-requires c κs = search needs
 both-requires-2 : tie.Need-both-requires-2
 both-requires-2 c κs = search needs
 
--- src/cells.rt:121:5
-both-requires-3 : tie.Need-both-requires-3
-both-requires-3 c κs = search needs
-
 -- src/cells.rt:114:1
 returns : tie.Need-returns
-returns c = chained (leb (c .before .before .before .before .before .before .before .before .args .a + c .before .before .before .before .before .before .before .before .args .n) (length (c .before .before .before .before .before .before .before .before .args .core .now))) (c .before .before .before .before .before .clear-of-code .ensures) (c .before .before .before .before .clear-of-stack .ensures) (c .before .before .before .clear-of-table .ensures) (c .before .before .both .ensures) (c .before .both2 .ensures) (c .both3 .ensures)
+returns c = cc
 
 pub clear-spec : {M : Type 1} → statement M
 clear-spec =
     tie.close
     (tie.spec
-    add-end
     clear-of-code-requires
     clear-of-stack-requires
     clear-of-table-requires
     both-requires
     both-requires-2
-    both-requires-3
     returns)

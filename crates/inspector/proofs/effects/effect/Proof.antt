@@ -1,3 +1,4 @@
+use Rattle.word.specs.Choices.{if_then_else_}
 use Rattle.inspector.proofs.Syllables.{twenty-nine}
 use Rattle.inspector.specs.Scan.{number, place}
 use Rattle.inspector.specs.ForCode.Forms.{itemOf, effected}
@@ -123,12 +124,12 @@ returns-10 c = λ sheet xs k s. literal-left xs _ (c .before .pre) ∙ just shee
 
 -- src/effects.rt:114:1
 returns-11 : tie.Need-returns-11
-unfolding itemOf
+unfolding itemOf if_then_else_
 returns-11 c = λ sheet xs k s. c .called-over .ensures _ xs s ∙ call-left sheet _ xs number (k .called) ∙ just sheet _ xs _ 38 (c .before .match .keys11) refl
 
 -- src/effects.rt:114:1
 returns-12 : tie.Need-returns-12
-unfolding itemOf
+unfolding itemOf if_then_else_
 returns-12 c = λ sheet xs k s. c .called-over2 .ensures _ xs s ∙ call-left sheet _ xs place (k .called) ∙ just sheet _ xs _ 39 (c .before .match .keys12) refl
 
 -- src/effects.rt:114:1
