@@ -19,3 +19,4 @@ pub mod Undo
 pub mod Endings
 pub mod Running
 pub mod Sprinting
+pub mod OneAnswer
