@@ -1,4 +1,5 @@
 pub mod Calculus
+pub mod InCore
 pub mod Sizes
 pub mod Writes
 pub mod Turns
