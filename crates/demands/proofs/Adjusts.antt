@@ -8,7 +8,7 @@ use lib.Dec.{eqb, ltb}
 use lib.ListN.{length, getD, set}
 use lib.Seq.{getD-set-same}
 use Rattle.machine.specs.States.{State, emptyA, emptyB, fillB, withS, store}
-use Rattle.machine.specs.Memory.{readOf}
+use Rattle.machine.specs.Memory.{inCore, readOf}
 use Rattle.machine.specs.Stack.{slotOf, pushOf, topOf, pushBOf, aEmptyOf, aFullOf, bFullOf, bothFullOf}
 use Rattle.sheet.specs.Sheets.{sOf, roomOf}
 use Rattle.inspector.specs.Scan.{Item, Shape}
@@ -19,17 +19,22 @@ use Rattle.demands.proofs.Holds.{Fits, Under, Kept, Set, RestOf, At, Em
 use Rattle.demands.proofs.Cores.{keep-stack}
 use Rattle.demands.proofs.Stacks.{under-height, under-set, register-off, register-on, register-front, rest-off, rest-front, rest-full, rest-empty, rest-none}
 
+-- What is in core is found, and read.
+pub in-core-safe : (len m : ℕ) → m < len → Safe (λ (n : ℕ). n ≡ m) (inCore len m)
+unfolding inCore
+in-core-safe len m h = safe-if (ltb m len) (λ _. goes refl) (λ e. absurd (omega (arith, ltb-false m len e)))
+
+pub read-safe : (core : List ℕ) (m : ℕ) → m < length core → Safe (λ (w : ℕ). w ≡ getD core m 0) (readOf core m)
+unfolding readOf
+read-safe core m h = safe-bind (in-core-safe (length core) m h) (λ at e. goes (ap (λ (at : ℕ). getD core at 0) e))
+
 slot-safe : (len s r : ℕ) → ((s + 1) / 64 ≡ r → ⊥) → s + 1 < len → Safe (λ (m : ℕ). m ≡ s + 1) (slotOf len s r)
 unfolding slotOf
-slot-safe len s r h i =
-    safe-if (eqb ((s + 1) / 64) r) (λ e. absurd (h (eqb-true _ _ e)))
-    (λ _. safe-if (ltb (s + 1) len) (λ _. goes refl) (λ e. absurd (omega (arith, ltb-false (s + 1) len e))))
+slot-safe len s r h i = safe-if (eqb ((s + 1) / 64) r) (λ e. absurd (h (eqb-true _ _ e))) (λ _. in-core-safe len (s + 1) i)
 
 top-safe : (core : List ℕ) (s : ℕ) → 0 < s → s < length core → Safe (λ (w : ℕ). w ≡ getD core s 0) (topOf core s)
-unfolding topOf readOf
-top-safe core s h i =
-    safe-if (eqb s 0) (λ e. absurd (omega (arith, eqb-true s 0 e)))
-    (λ _. safe-if (ltb s (length core)) (λ _. goes refl) (λ e. absurd (omega (arith, ltb-false s (length core) e))))
+unfolding topOf
+top-safe core s h i = safe-if (eqb s 0) (λ e. absurd (omega (arith, eqb-true s 0 e))) (λ _. read-safe core s i)
 
 module _ (core sheet : List ℕ) (ok : Passed core sheet) (p : ℕ) where
   abbrev SetOf : State → Type 0

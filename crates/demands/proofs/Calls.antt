@@ -5,13 +5,12 @@ use mathlib.Core.Logic.{inr}
 use mathlib.Core.Bool.{Bool, true, false, _&&_, true≢false}
 use mathlib.Core.List.{List, [], _∷_}
 use native.Mathlib.Omega.{arith}
-use borrow.Author.Tests.{ltb-true, ltb-false, eqb-true}
+use borrow.Author.Tests.{ltb-true, eqb-true}
 use lib.Dec.{eqb, ltb}
 use lib.IntN.{ℤ, pos, negsuc}
 use lib.ListN.{length, getD}
 use Rattle.machine.specs.Outcomes.{on}
 use Rattle.machine.specs.States.{State, fillA, wordAt}
-use Rattle.machine.specs.Memory.{readOf}
 use Rattle.machine.specs.Calls.{withinOf, indexOf, indexedOf, loadOf, dataCallOf, leftOf, callAs, callOf, fetchedOf, callKOf}
 use Rattle.word.specs.Field.{withField, bit}
 use Rattle.word.specs.Layout.{flagOf, presenceOf, sizeOf, addressOf, dataOf}
@@ -30,7 +29,7 @@ use Rattle.demands.proofs.Passed.{Passed}
 use Rattle.demands.proofs.Holds.{Fits, plain, points, At, EmptyA, FullA}
 use Rattle.demands.proofs.Cores.{open-in, array-unnamed}
 use Rattle.demands.proofs.Stacks.{register-some, rest-empty}
-use Rattle.demands.proofs.Adjusts.{a-empty, b-full}
+use Rattle.demands.proofs.Adjusts.{read-safe, a-empty, b-full}
 use Rattle.demands.proofs.Words.{taken-safe, indexed-flag, indexed-second, indexed-presence, indexed-size, indexed-address}
 use Rattle.demands.proofs.Operators.{Does, does-when, at-a}
 use Rattle.demands.proofs.Stores.{address-safe, cell-open}
@@ -57,10 +56,6 @@ within-safe (negsuc n) size = stops tt
 index-safe : (w size : ℕ) → Safe (λ (n : ℕ). n < size) (indexOf w size)
 unfolding indexOf
 index-safe w size = safe-bind (taken-safe w) (λ z _. within-safe z size)
-
-read-safe : (l : List ℕ) (m : ℕ) → m < length l → Safe (λ (w : ℕ). w ≡ getD l m 0) (readOf l m)
-unfolding readOf
-read-safe l m h = safe-if (ltb m (length l)) (λ _. goes refl) (λ e. absurd (omega (arith, ltb-false m (length l) e)))
 
 module _ (core sheet : List ℕ) (ok : Passed core sheet) (p : ℕ) where
   -- ---- a number cell

@@ -6,14 +6,14 @@ use mathlib.Core.Bool.{false}
 use mathlib.Core.List.{List, []}
 use native.Mathlib.Nat.{mod-lt}
 use native.Mathlib.Omega.{arith}
-use borrow.Author.Tests.{lt-ltb}
 use lib.Pow.{pow-pos}
 use lib.ListN.{length, getD}
 use Rattle.word.specs.Layout.{flagOf}
-use Rattle.machine.specs.Outcomes.{Res, on}
+use Rattle.machine.specs.Outcomes.{Res, on, _>>=_}
 use Rattle.machine.specs.States.{State}
 use Rattle.machine.specs.Memory.{readOf}
 use Rattle.machine.specs.Steps.{Ended, advancedOf, fetchedBy, executeOf}
+use Rattle.machine.proofs.InCore.{in-core-on}
 use Rattle.syllable.specs.Decoding.{decodeOf}
 use Rattle.syllable.specs.Positions.{syllableOf, nextOf}
 use Rattle.syllable.proofs.RoundTrip.{decode-proper}
@@ -26,7 +26,6 @@ use Rattle.demands.proofs.Cores.{code-unnamed}
 use Rattle.demands.proofs.Stacks.{rest-empty}
 use Rattle.demands.proofs.Ends.{Inv, Good}
 use Rattle.demands.proofs.Performs.{perform-good}
-use Rattle.word.specs.Choices.{if_then_else_}
 
 -- A syllable has 12 bits.
 twelve-bits : (w l : ℕ) → syllableOf w l < 4096
@@ -36,8 +35,8 @@ twelve-bits w l =
     subst (λ (n : ℕ). w / 2 ^ (47 - (12 * l + 11)) % 2 ^ (12 * l + 11 + 1 - 12 * l) < 2 ^ n) e (mod-lt _ (pow-pos (12 * l + 11 + 1 - 12 * l)))
 
 read-on : (l : List ℕ) (m : ℕ) → m < length l → readOf l m ≡ on (getD l m 0)
-unfolding readOf if_then_else_
-read-on l m h = rw (lt-ltb m (length l) h)
+unfolding readOf _>>=_
+read-on l m h = rw (in-core-on (length l) m h)
 
 module _ (core sheet : List ℕ) (ok : Passed core sheet) where
   advanced : (p : ℕ) (xs : Shape) (u : State) → At core sheet p xs u → At core sheet (nextOf p) xs (advancedOf u)

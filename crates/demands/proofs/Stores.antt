@@ -1,15 +1,15 @@
 -- LOD, STD, SND and COM read and write only number cells and array words.
 use Prim.Native.Nat.{ℕ, _+_, _*_, _<_, _≤_}
-use mathlib.Core.Path.{_≡_, refl, sym, _∙_, subst}
+use mathlib.Core.Path.{_≡_, refl, sym, _∙_, ap, subst}
 use mathlib.Core.Logic.{inl}
 use mathlib.Core.Bool.{true, false, _&&_, true≢false, false≢true}
 use mathlib.Core.List.{List, [], _∷_}
 use native.Mathlib.Omega.{arith}
-use borrow.Author.Tests.{ltb-false, eqb-true}
-use lib.Dec.{eqb, ltb}
+use borrow.Author.Tests.{eqb-true}
+use lib.Dec.{eqb}
 use lib.ListN.{length, set}
 use Rattle.machine.specs.States.{State, store}
-use Rattle.machine.specs.Memory.{inCore, storeOf, kAddressOf}
+use Rattle.machine.specs.Memory.{storeOf, kAddressOf}
 use Rattle.machine.specs.Stores.{placeOf, lodOf, sndOf, stdOf, comOf}
 use Rattle.word.specs.Field.{field}
 use Rattle.word.specs.Layout.{flagOf, presenceOf, addressOf}
@@ -22,13 +22,9 @@ use Rattle.demands.specs.Stays.{Open}
 use Rattle.demands.proofs.Holds.{Fits, is, plain, points, Under, Kept, Set, At, FullB}
 use Rattle.demands.proofs.Cores.{open-in, open-stack, keep-open}
 use Rattle.demands.proofs.Stacks.{under-height, under-set, register-none, rest-empty, rest-some}
-use Rattle.demands.proofs.Adjusts.{a-full, both-full}
+use Rattle.demands.proofs.Adjusts.{in-core-safe, a-full, both-full}
 use Rattle.demands.proofs.Words.{small-off, value-off}
 use Rattle.demands.proofs.Operators.{Does, does-when, at-a}
-
-in-core-safe : (len m : ℕ) → m < len → Safe (λ (n : ℕ). n ≡ m) (inCore len m)
-unfolding inCore
-in-core-safe len m h = safe-if (ltb m len) (λ _. goes refl) (λ e. absurd (omega (arith, ltb-false m len e)))
 
 module _ (core sheet : List ℕ) (ok : Passed core sheet) (p : ℕ) where
   -- "Address of k. SALF off: 64R+k", in core of a cell of the table.
@@ -114,7 +110,7 @@ module _ (core sheet : List ℕ) (ok : Passed core sheet) (p : ℕ) where
 
   store-safe : (st : State) (m w : ℕ) → m < length (st .core) → Safe (λ (u : State). u ≡ store st m w) (storeOf st m w)
   unfolding storeOf
-  store-safe st m w h = safe-if (ltb m (length (st .core))) (λ _. goes refl) (λ e. absurd (omega (arith, ltb-false m (length (st .core)) e)))
+  store-safe st m w h = safe-bind (in-core-safe (length (st .core)) m h) (λ at e. goes (ap (λ (at : ℕ). store st at w) e))
 
   -- COM stores at cell 9, a number cell.
   pub com-safe : (st : State) (x : Item) → (value x && eqb (cellOf sheet 9) 3) ≡ true → At core sheet p (x ∷ []) st → Safe (λ (u : State). Kept core sheet (u .core)) (comOf st)

@@ -9,9 +9,11 @@ use lib.ListN.{length}
 use Rattle.word.specs.Core.{lengthFits, wordsFit}
 use Rattle.word.specs.Digits.{below}
 use Rattle.machine.specs.declared.outcome.Registers.{Registers}
+use Rattle.machine.specs.declared.outcome.Answer.{Answer}
+use Rattle.machine.specs.declared.outcome.Ran.{Ran}
 use Rattle.machine.specs.States.{State, stateOf}
-use Rattle.machine.specs.Steps.{refusalOf, Stepped, stepOf}
-use Rattle.machine.specs.Runs.{Run, endsAt, counted, runFrom, runOf}
+use Rattle.machine.specs.Steps.{refusalOf, stepOf, answered}
+use Rattle.machine.specs.Runs.{endsAt, counted, runFrom, runOf, ranOf}
 use Rattle.laws.specs.Trials.{trials, allCome}
 use Rattle.laws.specs.Runs.{goesOnFor}
 use Rattle.tape.specs.Files.{readNumberOf, readFileOf, writeNumberOf, writeFileOf}
@@ -19,9 +21,9 @@ use Rattle.tape.specs.Files.{readNumberOf, readFileOf, writeNumberOf, writeFile
 pub record Demand2 : Type 0 where
   -- P1 to P10 of the paper: no machine that stops always, never moves or has one fixed answer
   pub sums : allCome trials ≡ true
-  -- one answer for each argument
-  pub step-sole : (core : List ℕ) (g : Registers) {r r′ : Stepped} → r ≡ stepOf core g → r′ ≡ stepOf core g → r ≡ r′
-  pub run-sole : (core : List ℕ) (g : Registers) (budget : ℕ) {r r′ : Run} → r ≡ runOf core g budget → r′ ≡ runOf core g budget → r ≡ r′
+  -- one answer for each argument: two that a call may give back, with the cores that they leave, are equal
+  pub step-sole : (core : List ℕ) (g : Registers) {a a′ : Answer} {core₁ core₂ : List ℕ} → answered a core₁ ≡ stepOf core g → answered a′ core₂ ≡ stepOf core g → (a ≡ a′) × (core₁ ≡ core₂)
+  pub run-sole : (core : List ℕ) (g : Registers) (budget : ℕ) {a a′ : Ran} {core₁ core₂ : List ℕ} → ranOf a core₁ ≡ runOf core g budget → ranOf a′ core₂ ≡ runOf core g budget → (a ≡ a′) × (core₁ ≡ core₂)
   -- a run is its steps, and the count is that of completed steps. Core and registers pass the checks; of a budget of 0, nothing is fetched
   pub run-none : (core : List ℕ) (g : Registers) → refusalOf core g ≡ 0 → runOf core g 0 ≡ endsAt 0 0 (stateOf core g)
   -- of one more: a step that goes on, and then the run of the rest from what it left, with one more completed

@@ -27,6 +27,7 @@ tells-lt : (m n : ℕ) → Tells (ltb m n) (m < n)
 tells-lt m n = (ltb-true m n, lt-ltb m n)
 
 tells-holds : (full : Bool) (x : ℕ) → Tells (holdsWord full x) (Holds full x)
+unfolding if_then_else_
 tells-holds true x = tells-lt x (2 ^ 48)
 tells-holds false x = (eqb-true x 0, eq-eqb x 0)
 

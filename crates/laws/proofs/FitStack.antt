@@ -1,13 +1,13 @@
 -- Reading, storing, pushing and the adjustments keep a state fit.
 use Prim.Native.Nat.{ℕ, _-_}
 use native.Mathlib.Omega.{arith}
-use lib.Dec.{eqb, ltb}
+use lib.Dec.{eqb}
 use lib.ListN.{length}
 use Rattle.machine.specs.Outcomes.{Res}
 use Rattle.machine.specs.States.{State}
-use Rattle.machine.specs.Memory.{readOf, storeOf}
+use Rattle.machine.specs.Memory.{inCore, readOf, storeOf}
 use Rattle.machine.specs.Stack.{pushOf, topOf, down, pushBOf, pushAOf, aEmptyOf, aFullOf, bFullOf, bothFullOf}
-use Rattle.machine.proofs.Sizes.{Gives, goes, stops, gives-if, gives-bind, slot-gives}
+use Rattle.machine.proofs.Sizes.{Gives, goes, stops, gives-if, gives-bind, any, slot-gives}
 use Rattle.laws.specs.Fit.{Word, Keeps}
 use Rattle.laws.proofs.FitSetters.{word-a, word-b, fill-a, empty-a, fill-b, empty-b, with-s, store-fit}
 
@@ -18,11 +18,11 @@ Goes o = Gives (Keeps o)
 module _ {o : State} (st : State) (k : Keeps o st) where
   pub read-fit : (m : ℕ) → Gives Word (readOf (st .core) m)
   unfolding readOf
-  read-fit m = gives-if (ltb m (length (st .core))) (λ _. goes (k .fit .words m)) (λ _. stops)
+  read-fit m = gives-bind (any (inCore (length (st .core)) m)) (λ at _. goes (k .fit .words at))
 
   pub store-of-fit : (m w : ℕ) → Word w → Goes o (storeOf st m w)
   unfolding storeOf
-  store-of-fit m w h = gives-if (ltb m (length (st .core))) (λ _. goes (store-fit k m w h)) (λ _. stops)
+  store-of-fit m w h = gives-bind (any (inCore (length (st .core)) m)) (λ at _. goes (store-fit k at w h))
 
   -- S+1 is below the core length, and so below 32,768.
   pub push-fit : (w : ℕ) → Word w → Goes o (pushOf st w)

@@ -11,7 +11,6 @@ use Rattle.machine.specs.declared.outcome.Registers.{Registers}
 use Rattle.word.specs.Choices.{if_then_else_}
 use Rattle.machine.specs.States.{State, stateOf}
 use Rattle.machine.specs.Steps.{Ended, next, communicated, stopped, executeOf, refusalOf, Stepped, endedAs, stepOf}
-use Rattle.word.proofs.Sole.{sole}
 use Rattle.laws.specs.Fit.{Fit, Keeps, After}
 use Rattle.laws.proofs.FitExecute.{execute-fit}
 use Rattle.laws.proofs.FitChecks.{fit-refusal}
@@ -57,7 +56,3 @@ unfolding stepOf
 step-kept core g p q =
     let e : left (stepOf core g) ≡ stateOf core g = answer-kept (eqb (refusalOf core g) 0) (executeOf (stateOf core g)) (stateOf core g) (refusalOf core g) p q in
     (ap (λ (st : State). st .core) e, ap (λ (st : State). st .regs) e)
-
--- The step answers one thing.
-pub step-sole : (core : List ℕ) (g : Registers) {r r′ : Stepped} → r ≡ stepOf core g → r′ ≡ stepOf core g → r ≡ r′
-step-sole core g p q = sole p q

@@ -10,3 +10,4 @@ pub mod FitChecks
 pub mod FitSteps
 pub mod Running
 pub mod FitRuns
+pub mod StackLaws

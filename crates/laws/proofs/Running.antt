@@ -8,7 +8,6 @@ use native.Mathlib.Nat.{add-assoc, zero-add, suc-add}
 use native.Mathlib.Omega.{arith}
 use borrow.Author.Tests.{eq-eqb, le-leb}
 use lib.Dec.{eqb}
-use Rattle.word.proofs.Sole.{sole}
 use Rattle.machine.specs.declared.outcome.Cause.{Cause}
 use Rattle.machine.specs.declared.outcome.Cause.the-variants.{Address, Overflow, Presence, Flag, Index, Unbuilt, Unwhole, ZeroDivisor}
 use Rattle.machine.specs.declared.outcome.Registers.{Registers}
@@ -22,6 +21,7 @@ use Rattle.laws.proofs.FitSteps.{step-fit}
 
 -- No cause has the number 0.
 halted : (c : Cause) (st : State) (m : ℕ) → endsAt (numberOf c) 0 st ≡ goesOnFor (endsAt (numberOf c) 0 st) m
+unfolding if_then_else_
 halted Address st m = refl
 halted Overflow st m = refl
 halted Presence st m = refl
@@ -33,19 +33,21 @@ halted ZeroDivisor st m = refl
 
 -- One syllable more before both.
 one-more : (b : Bool) (r : Run) (m : ℕ)
-    → counted 1 (elim b [ true ↦ counted (r .completed) (runFrom m (stateOf (r .core) (r .regs))) | false ↦ r ])
-    ≡ elim b [ true ↦ counted (1 + r .completed) (runFrom m (stateOf (r .core) (r .regs))) | false ↦ counted 1 r ]
+    → counted 1 (if b then counted (r .completed) (runFrom m (stateOf (r .core) (r .regs))) else r)
+    ≡ (if b then counted (1 + r .completed) (runFrom m (stateOf (r .core) (r .regs))) else counted 1 r)
+unfolding if_then_else_
 one-more true r m = ap (λ (n : ℕ). record { stop = runFrom m (stateOf (r .core) (r .regs)) .stop; completed = n; core = runFrom m (stateOf (r .core) (r .regs)) .core; regs = runFrom m (stateOf (r .core) (r .regs)) .regs }) (sym (add-assoc 1 (r .completed) (runFrom m (stateOf (r .core) (r .regs)) .completed)))
 one-more false r m = refl
 
 step-add : (n m : ℕ) (st : State) (e : Ended) → ((u : State) → runFrom (n + m) u ≡ goesOnFor (runFrom n u) m)
     → goesOn e (runFrom (n + m)) st ≡ goesOnFor (goesOn e (runFrom n) st) m
+unfolding if_then_else_
 step-add n m st (next u) h = ap (counted 1) (h u) ∙ one-more (eqb (runFrom n u .stop) 0) (runFrom n u) m
 step-add n m st (communicated u) h = refl
 step-add n m st (stopped c) h = halted c st m
 
 pub run-add : (n m : ℕ) (st : State) → runFrom (n + m) st ≡ goesOnFor (runFrom n st) m
-unfolding runFrom
+unfolding runFrom if_then_else_
 run-add zero m st = ap (λ (k : ℕ). runFrom k st) (zero-add m) ∙ ap (λ (k : ℕ). record { stop = runFrom m st .stop; completed = k; core = runFrom m st .core; regs = runFrom m st .regs }) (sym (zero-add (runFrom m st .completed)))
 run-add (suc n) m st = ap (λ (k : ℕ). runFrom k st) (suc-add n m) ∙ step-add n m st (executeOf st) (run-add n m)
 
@@ -118,7 +120,3 @@ module _ (core : List ℕ) (g : Registers) (budget : ℕ) (e : refusalOf core g 
       first
       ∙ subst (λ (s : Stepped). s .number ≢ 0 → s .number ≢ 17 → goesOn (executeOf (stateOf core g)) (runFrom budget) (stateOf core g) ≡ endsAt (s .number) 0 (stateOf core g))
       (sym (passed-step core g e)) (stop-by (runFrom budget) (stateOf core g) (executeOf (stateOf core g))) p q
-
--- The run answers one thing.
-pub run-sole : (core : List ℕ) (g : Registers) (budget : ℕ) {r r′ : Run} → r ≡ runOf core g budget → r′ ≡ runOf core g budget → r ≡ r′
-run-sole core g budget p q = sole p q

@@ -1,4 +1,5 @@
 pub mod Calculus
+pub mod InCore
 pub mod Sizes
 pub mod Writes
 pub mod Turns
@@ -19,3 +20,4 @@ pub mod Undo
 pub mod Endings
 pub mod Running
 pub mod Sprinting
+pub mod OneAnswer

@@ -3,12 +3,10 @@ use mathlib.Core.Path.{_≡_, refl}
 use mathlib.Core.Bool.{Bool, true, false, not, _&&_}
 use mathlib.Core.List.{List}
 use Prim.Native.Nat.{ℕ, _+_, _*_}
-use lib.Dec.{ltb}
 use lib.ListN.{length, set}
-use Rattle.machine.specs.declared.outcome.Cause.the-variants.{Address}
 use Rattle.machine.specs.declared.outcome.Registers.{Registers}
 use Rattle.machine.specs.Outcomes.{Res, on, halt, _>>=_}
-use Rattle.machine.specs.States.{State, setA, setB, setS, setF, withF, emptyA, emptyB, stateOf}
+use Rattle.machine.specs.States.{State, setA, setB, setS, setF, withF, emptyA, emptyB, stateOf, store}
 use Rattle.machine.specs.Memory.{inCore, storeOf}
 use Rattle.machine.specs.Stack.{slotOf, pushOf, pushAOf, pushBOf}
 use Rattle.word.specs.Choices.{if_then_else_}
@@ -71,16 +69,15 @@ marks true st e = record { plan = refl }
 marks false st e = changed (λ u. withF u (u .regs .s)) (pushes st _ e)
 
 -- "if SALF on and MSFF off, write that MSCW also at 64R+7"
-also-of : (live near : Bool) (st : State) (m w : ℕ)
-    → (if live then (if near then on (record { core = set (st .core) m w; regs = st .regs }) else halt Address) else on st)
-    ≡ ((if live then (if near then on m else halt Address) else on m) >>= (λ t. on (record { core = putOf live t w (st .core); regs = st .regs })))
+also-of : (live : Bool) (o : Res ℕ) (st : State) (m w : ℕ)
+    → (if live then (o >>= (λ t. on (store st t w))) else on st)
+    ≡ ((if live then o else on m) >>= (λ t. on (record { core = putOf live t w (st .core); regs = st .regs })))
 unfolding if_then_else_ _>>=_
-also-of true true st m w = refl
-also-of true false st m w = refl
-also-of false near st m w = refl
+also-of true o st m w = refl
+also-of false o st m w = refl
 
 pub also-plan : (st : State) (w : ℕ) {len : ℕ} → length (st .core) ≡ len
     → Planned (alsoOf st w) (inCoreIf (st .regs .salf && not (st .regs .msff)) len (64 * st .regs .r + 7))
     (λ t. record { core = putOf (st .regs .salf && not (st .regs .msff)) t w (st .core); regs = st .regs })
-unfolding alsoOf inCoreIf inCore storeOf
-also-plan st w {len} e = record { plan = rw (← e) (also-of (st .regs .salf && not (st .regs .msff)) (ltb (64 * st .regs .r + 7) (length (st .core))) st (64 * st .regs .r + 7) w) }
+unfolding alsoOf inCoreIf storeOf
+also-plan st w {len} e = record { plan = rw (← e) (also-of (st .regs .salf && not (st .regs .msff)) (inCore (length (st .core)) (64 * st .regs .r + 7)) st (64 * st .regs .r + 7) w) }

@@ -62,7 +62,7 @@ base-small st b h e = given (base-gives st h) e
 
 -- The address of a push is in core.
 pub slot-gives : (len s r : ℕ) → Gives (λ (m : ℕ). (m < len) × (m ≡ s + 1)) (slotOf len s r)
-unfolding slotOf
+unfolding slotOf inCore
 slot-gives len s r =
     gives-if (eqb ((s + 1) / 64) r) (λ _. stops) (λ _. gives-if (ltb (s + 1) len) (λ t. goes (ltb-true (s + 1) len t, refl)) (λ _. stops))
 

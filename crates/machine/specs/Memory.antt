@@ -16,10 +16,14 @@ unfoldable pub inCore : ℕ → ℕ → Res ℕ
 inCore len m = if ltb m len then on m else halt Address
 
 unfoldable pub readOf : List ℕ → ℕ → Res ℕ
-readOf core m = if ltb m (length core) then on (getD core m 0) else halt Address
+readOf core m = do
+  at ← inCore (length core) m
+  on (getD core at 0)
 
 unfoldable pub storeOf : State → ℕ → ℕ → Res State
-storeOf st m w = if ltb m (length (st .core)) then on (store st m w) else halt Address
+storeOf st m w = do
+  at ← inCore (length (st .core)) m
+  on (store st at w)
 
 -- "Base is F, or with MSFF on the F field of the word at 64R+7."
 unfoldable pub baseOf : State → Res ℕ

@@ -24,6 +24,7 @@ endsAt stop completed st = record { stop = stop; completed = completed; core = s
 abbrev pub counted : ℕ → Run → Run
 counted n r = record { stop = r .stop; completed = n + r .completed; core = r .core; regs = r .regs }
 
+-- A syllable that goes on or communicates is completed; one that stops is not.
 abbrev pub goesOn : Ended → (State → Run) → State → Run
 goesOn (next u) rest st = counted 1 (rest u)
 goesOn (communicated u) rest st = endsAt 17 1 u

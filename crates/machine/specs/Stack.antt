@@ -1,18 +1,23 @@
--- Push, pop and the four adjustments. "The stack is core up to S, then B if full, then A if full. It grows upward."
+-- The stack, push, pop and the four adjustments.
 use Prim.Native.Nat.{ℕ, _+_, _-_, _/_}
 use mathlib.Core.Bool.{Bool, true, false}
-use mathlib.Core.List.{List}
-use lib.Dec.{eqb, ltb}
-use lib.ListN.{length}
+use mathlib.Core.List.{List, [], _∷_, _++_}
+use lib.Dec.{eqb}
+use lib.ListN.{length, take}
 use Rattle.machine.specs.declared.outcome.Cause.the-variants.{Address, Overflow}
 use Rattle.machine.specs.Outcomes.{Res, on, halt, _>>=_}
 use Rattle.machine.specs.States.{State, fillA, emptyA, fillB, emptyB, withS, store}
-use Rattle.machine.specs.Memory.{readOf}
+use Rattle.machine.specs.Memory.{inCore, readOf}
 use Rattle.word.specs.Choices.{if_then_else_}
+
+-- "The stack is core up to S, then B if full, then A if full. It grows upward." The bottom first.
+unfoldable pub stackOf : State → List ℕ
+stackOf st =
+    take (st .regs .s + 1) (st .core) ++ (if st .regs .bfull then st .regs .b ∷ [] else []) ++ (if st .regs .afull then st .regs .a ∷ [] else [])
 
 -- "Push: to S+1; .. Stop 12 if floor((S+1)/64)=R, else 11 if S+1 is not below the core length." The address that a push writes.
 unfoldable pub slotOf : ℕ → ℕ → ℕ → Res ℕ
-slotOf len s r = if eqb ((s + 1) / 64) r then halt Overflow else if ltb (s + 1) len then on (s + 1) else halt Address
+slotOf len s r = if eqb ((s + 1) / 64) r then halt Overflow else inCore len (s + 1)
 
 unfoldable pub pushOf : State → ℕ → Res State
 pushOf st w = do

@@ -35,6 +35,7 @@ pub data Ended : Type 0 where
   communicated : State → Ended
   stopped : Cause → Ended
 
+-- How a syllable ends by how it went: COM, "stop 17. It completes", and every other.
 abbrev pub plain : Res State → Ended
 plain (on st) = next st
 plain (halt n) = stopped n
@@ -43,6 +44,7 @@ abbrev pub last : Res State → Ended
 last (on st) = communicated st
 last (halt n) = stopped n
 
+-- The groups of logic and branches: "two" and "one"; forward and back.
 abbrev pub logicAs : LogicGroup → State → Res State
 logicAs Lnd st = twoWordsOf lndOf st
 logicAs Lor st = twoWordsOf lorOf st
@@ -80,6 +82,7 @@ operateOf here Xit st = plain (xitOf st)
 operateOf here Com st = last (comOf st)
 operateOf here (NotBuilt k) st = stopped Unbuilt
 
+-- "A syllable is read as a literal, an operand call, a descriptor call or an operator": LITC, OPDC, DESC, or what the operator does.
 unfoldable pub performOf : ℕ → Syllable → State → Ended
 performOf here (Litc k) st = plain (litcOf st k)
 performOf here (Opdc k) st = plain (callKOf false here st k)
@@ -102,8 +105,7 @@ executeOf st = fetchedBy (readOf (st .core) (st .regs .c)) st
 
 -- "each full or empty; empty holds 0"
 abbrev pub holdsWord : Bool → ℕ → Bool
-holdsWord true x = ltb x (2 ^ 48)
-holdsWord false x = eqb x 0
+holdsWord full x = if full then ltb x (2 ^ 48) else eqb x 0
 
 -- "3: a register .. out of range, or an empty register not 0": S, F, C 15 bits, R 9, L 2
 unfoldable pub registersFit : Registers → Bool
@@ -131,6 +133,7 @@ endedAs (next u) st = record { number = 0; core = u .core; regs = u .regs }
 endedAs (communicated u) st = record { number = 17; core = u .core; regs = u .regs }
 endedAs (stopped n) st = record { number = numberOf n; core = st .core; regs = st .regs }
 
+-- "Order: 1, 2, 3, fetch (11), then as written above."
 unfoldable pub stepOf : List ℕ → Registers → Stepped
 stepOf core g =
     if eqb (refusalOf core g) 0 then endedAs (executeOf (stateOf core g)) (stateOf core g)

@@ -2,7 +2,7 @@ use Rattle.machine.specs.Memory.{readOf}
 use mathlib.Core.Path.{refl, sym, _∙_}
 use Rattle.machine.proofs.Calculus.{known, isYes, isNo, isGiven, isCut, stays, wrote, becomes, reads, went, cut, kept}
 use Rattle.machine.specs.ForCode.Answers.{spotSays, partOf, wentOf}
-use borrow.Author.Tests.{lt-ltb, le-ltb, eq-eqb, ne-eqb}
+use Rattle.machine.proofs.InCore.{in-core-on, in-core-off}
 use borrow.Author.Needs.{needs}
 use Rattle.machine.proofs.memory.read.Statement.{statement}
 use Rattle.machine.proofs.memory.read.Tie as tie
@@ -20,12 +20,12 @@ shared-slice-read-t7 c = search needs
 -- src/memory.rt:26:9
 returns : tie.Need-returns
 unfolding readOf
-returns c = isYes _ _ (lt-ltb _ _ (c .before .if1 .taken)) refl
+returns c = isGiven _ (in-core-on _ _ (c .before .if1 .taken)) refl
 
 -- src/memory.rt:22:1
 returns-2 : tie.Need-returns-2
 unfolding readOf
-returns-2 c = isNo _ _ (le-ltb _ _ (c .if1 .left)) refl
+returns-2 c = isCut _ (in-core-off _ _ (c .if1 .left))
 
 pub read-spec : {M : Type 1} → statement M
 read-spec = tie.close (tie.spec mul-t5 shared-slice-read-t7 returns returns-2)

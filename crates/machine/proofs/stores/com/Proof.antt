@@ -1,9 +1,9 @@
-use borrow.Author.Tests.{lt-ltb, le-ltb}
+use Rattle.machine.proofs.InCore.{in-core-on, in-core-off}
 use Rattle.machine.specs.Memory.{storeOf}
 use Rattle.machine.specs.ForCode.Answers.{wentOf}
 use Rattle.machine.specs.Stores.{comOf}
 use mathlib.Core.Path.{refl, sym}
-use Rattle.machine.proofs.Calculus.{known, isYes, isNo, isGiven, isCut, stays, wrote}
+use Rattle.machine.proofs.Calculus.{known, isGiven, isCut, stays, wrote}
 use borrow.Author.Needs.{needs}
 use Rattle.machine.proofs.stores.com.Statement.{statement}
 use Rattle.machine.proofs.stores.com.Tie as tie
@@ -56,7 +56,7 @@ same-length-2 c = search needs
 -- src/stores.rt:116:9
 returns-2 : tie.Need-returns-2
 unfolding comOf storeOf
-returns-2 c = wrote (c .before .before .put .ensures) (isGiven _ (known (wentOf _) (c .before .before .before .before .before .before .before .before .before .a-full .ensures) (c .before .before .before .before .before .before .before .h .given .1)) (isGiven _ (sym (isYes _ _ (lt-ltb _ _ (c .before .before .before .before .if1 .taken)) refl)) refl))
+returns-2 c = wrote (c .before .before .put .ensures) (isGiven _ (known (wentOf _) (c .before .before .before .before .before .before .before .before .before .a-full .ensures) (c .before .before .before .before .before .before .before .h .given .1)) (isGiven _ (sym (isGiven _ (in-core-on _ _ (c .before .before .before .before .if1 .taken)) refl)) refl))
 
 -- src/stores.rt:102:1
 same-length-3 : tie.Need-same-length-3
@@ -65,7 +65,7 @@ same-length-3 c = search needs
 -- src/stores.rt:102:1
 returns-3 : tie.Need-returns-3
 unfolding comOf storeOf
-returns-3 c = stays (isGiven _ (known (wentOf _) (c .before .before .before .before .before .a-full .ensures) (c .before .before .before .h .given .1)) (isCut _ (sym (isNo _ _ (le-ltb _ _ (c .if1 .left)) refl))))
+returns-3 c = stays (isGiven _ (known (wentOf _) (c .before .before .before .before .before .a-full .ensures) (c .before .before .before .h .given .1)) (isCut _ (sym (isCut _ (in-core-off _ _ (c .if1 .left))))))
 
 pub com-spec : {M : Type 1} → statement M
 com-spec =

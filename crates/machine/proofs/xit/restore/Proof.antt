@@ -2,7 +2,7 @@
 use mathlib.Core.Path.{refl}
 use Rattle.machine.proofs.Calculus.{known, isYes, isNo, isGiven, isCut, stays, wrote, reads}
 use Rattle.machine.specs.ForCode.Answers.{partOf}
-use borrow.Author.Tests.{lt-ltb, le-ltb}
+use Rattle.machine.proofs.InCore.{in-core-on, in-core-off}
 use Rattle.machine.specs.Marks.{restoreOf}
 use Rattle.machine.specs.Memory.{storeOf}
 use borrow.Author.Needs.{needs}
@@ -45,14 +45,14 @@ same-length-2 c = search needs
 
 returns-2 : tie.Need-returns-2
 unfolding restoreOf storeOf
-returns-2 c = wrote (c .before .before .put .ensures) (isYes _ _ (c .before .before .before .before .before .before .before .before .before .before .before .before .if1 .taken) (isGiven _ (known partOf (c .before .before .before .before .before .before .before .before .before .chain .ensures) (c .before .before .before .before .before .before .before .w .given .1)) (isYes _ _ (lt-ltb _ _ (c .before .before .before .before .if2 .taken)) refl)))
+returns-2 c = wrote (c .before .before .put .ensures) (isYes _ _ (c .before .before .before .before .before .before .before .before .before .before .before .before .if1 .taken) (isGiven _ (known partOf (c .before .before .before .before .before .before .before .before .before .chain .ensures) (c .before .before .before .before .before .before .before .w .given .1)) (isGiven _ (in-core-on _ _ (c .before .before .before .before .if2 .taken)) refl)))
 
 same-length-3 : tie.Need-same-length-3
 same-length-3 c = search needs
 
 returns-3 : tie.Need-returns-3
 unfolding restoreOf storeOf
-returns-3 c = stays (isYes _ _ (c .before .before .before .before .before .before .before .before .if1 .taken) (isGiven _ (known partOf (c .before .before .before .before .before .chain .ensures) (c .before .before .before .w .given .1)) (isNo _ _ (le-ltb _ _ (c .if2 .left)) refl)))
+returns-3 c = stays (isYes _ _ (c .before .before .before .before .before .before .before .before .if1 .taken) (isGiven _ (known partOf (c .before .before .before .before .before .chain .ensures) (c .before .before .before .w .given .1)) (isCut _ (in-core-off _ _ (c .if2 .left)))))
 
 returns-4 : tie.Need-returns-4
 unfolding restoreOf
