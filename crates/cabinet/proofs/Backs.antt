@@ -27,10 +27,10 @@ use Rattle.tape.proofs.Bytes.{write-yes}
 use Rattle.tape.proofs.Words.{words-length}
 use Rattle.cabinet.specs.declared.rows.Taken.the-variants.{Set, Refused}
 use Rattle.cabinet.specs.Rows.{rowOf, rowTakenOf}
-use Rattle.cabinet.specs.Crossings.{Crossed, crossed, refuses, stepBackOf, stepTakenOf, stepBytesOf, Counted, countedBytes, runBackOf, runTakenOf, runBytesOf}
+use Rattle.cabinet.specs.Crossings.{StepBytes, stepBytes, refuses, stepBackOf, stepTakenOf, stepBytesOf, RunBytes, runBytes, runBackOf, runTakenOf, runBytesOf}
 use Rattle.cabinet.proofs.Sets.{row-words, row-length, read-exact, taken-good}
 use Rattle.cabinet.proofs.Counts.{Whole}
-use Rattle.cabinet.specs.ForCode.Rooms.{Room, writtenBack, countBack}
+use Rattle.cabinet.specs.ForCode.Rooms.{Room, writtenBack}
 
 -- ---- a number that does not refuse
 
@@ -95,20 +95,20 @@ unfolding writtenBack stepBackOf if_then_else_
 left-back n words core regs g h r = by (refuses n) h
   where
     by : (b : Bool) → (b ≡ false → (refusalOf words g ≡ 0) × (length core ≡ 6 * length words))
-        → (if b then crossed n core regs else crossed n (writeFileOf words core) (writeFileOf (rowOf g) regs)) ≡ (if b then crossed n core regs else crossed n (bytesOf words) (bytesOf (rowOf g)))
+        → (if b then stepBytes n core regs else stepBytes n (writeFileOf words core) (writeFileOf (rowOf g) regs)) ≡ (if b then stepBytes n core regs else stepBytes n (bytesOf words) (bytesOf (rowOf g)))
     by true h = refl
     by false h = rw (core-written words core g (h refl .0) (h refl .1), row-written words regs g (h refl .0) r)
 
 pub hands-back : (n : ℕ) (words core regs : List ℕ) (g : Registers) {core′ regs′ row : List ℕ} → refuses n ≡ false → core′ ≡ writeFileOf words core → row ≡ rowOf g → regs′ ≡ writeFileOf row regs
-    → crossed n core′ regs′ ≡ writtenBack n words g core regs
+    → stepBytes n core′ regs′ ≡ writtenBack n words g core regs
 unfolding writtenBack if_then_else_
 hands-back n words core regs g f c r e = rw (f, c, e, r)
 
 -- ---- a step and a run, handed back
 
 step-back : (words words′ core core′ regs regs′ : List ℕ) (g : Registers) (a : Answer) → length core ≡ 6 * length words → length regs ≡ 66
-    → answered a words′ ≡ stepOf words g → crossed (a .number) core′ regs′ ≡ writtenBack (a .number) words′ (a .regs) core regs
-    → crossed (a .number) core′ regs′ ≡ stepBackOf (stepOf words g) core regs
+    → answered a words′ ≡ stepOf words g → stepBytes (a .number) core′ regs′ ≡ writtenBack (a .number) words′ (a .regs) core regs
+    → stepBytes (a .number) core′ regs′ ≡ stepBackOf (stepOf words g) core regs
 step-back words words′ core core′ regs regs′ g a l r e h =
     h ∙ left-back (a .number) words′ core regs (a .regs) fits r ∙ ap (λ (s : Stepped). stepBackOf s core regs) e
   where
@@ -118,26 +118,16 @@ step-back words words′ core core′ regs regs′ g a l r e h =
         let same : length words′ ≡ length words = ap (λ (s : Stepped). length (s .core)) e ∙ step-length words g z in
         (ap (λ (s : Stepped). refusalOf (s .core) (s .regs)) e ∙ step-fit words g z, omega arith)
 
--- The count goes with the bytes.
-count-back : (r : Run) (core core′ regs regs′ : List ℕ) (old : ℕ) → crossed (r .stop) core′ regs′ ≡ stepBackOf (record { number = r .stop; core = r .core; regs = r .regs }) core regs
-    → countedBytes (r .stop) core′ regs′ (countBack (r .stop) (r .completed) old) ≡ runBackOf r core regs old
-unfolding stepBackOf runBackOf countBack if_then_else_
-count-back r core core′ regs regs′ old e = by (refuses (r .stop)) e
+run-back : (words words′ core core′ regs regs′ : List ℕ) (g : Registers) (a : Ran) (budget : ℕ) → length core ≡ 6 * length words → length regs ≡ 66
+    → ranOf a words′ ≡ runOf words g budget → stepBytes (a .stop) core′ regs′ ≡ writtenBack (a .stop) words′ (a .regs) core regs
+    → runBytes (a .stop) core′ regs′ (a .completed) ≡ runBackOf (runOf words g budget) core regs
+unfolding runBackOf
+run-back words words′ core core′ regs regs′ g a budget l r e h =
+    ap counting (h ∙ left-back (a .stop) words′ core regs (a .regs) fits r) ∙ ap (λ (s : Run). runBackOf s core regs) e
   where
-    by : (b : Bool) → crossed (r .stop) core′ regs′ ≡ (if b then crossed (r .stop) core regs else crossed (r .stop) (bytesOf (r .core)) (bytesOf (rowOf (r .regs))))
-        → countedBytes (r .stop) core′ regs′ (if b then old else r .completed)
-        ≡ (if b then countedBytes (r .stop) core regs old else countedBytes (r .stop) (bytesOf (r .core)) (bytesOf (rowOf (r .regs))) (r .completed))
-    by true e = ap (λ (x : Crossed). countedBytes (r .stop) (x .core) (x .regs) old) e
-    by false e = ap (λ (x : Crossed). countedBytes (r .stop) (x .core) (x .regs) (r .completed)) e
+    counting : StepBytes → RunBytes
+    counting x = record { left = x; completed = a .completed }
 
-run-back : (words words′ core core′ regs regs′ : List ℕ) (g : Registers) (a : Ran) (budget old new : ℕ) → length core ≡ 6 * length words → length regs ≡ 66
-    → ranOf a words′ ≡ runOf words g budget → crossed (a .stop) core′ regs′ ≡ writtenBack (a .stop) words′ (a .regs) core regs → new ≡ countBack (a .stop) (a .completed) old
-    → countedBytes (a .stop) core′ regs′ new ≡ runBackOf (runOf words g budget) core regs old
-run-back words words′ core core′ regs regs′ g a budget old new l r e h c =
-    ap (λ (n : ℕ). countedBytes (a .stop) core′ regs′ n) c
-    ∙ count-back (ranOf a words′) core core′ regs regs′ old (h ∙ left-back (a .stop) words′ core regs (a .regs) fits r)
-    ∙ ap (λ (s : Run). runBackOf s core regs old) e
-  where
     fits : refuses (a .stop) ≡ false → (refusalOf words′ (a .regs) ≡ 0) × (length core ≡ 6 * length words′)
     fits f =
         let z : refusalOf words g ≡ 0 = run-accepted words g budget (ap (λ (s : Run). refuses (s .stop)) (sym e) ∙ f) in
@@ -155,17 +145,17 @@ module _ (old core regs : List ℕ) (room : Room old core regs) {words : List �
 
 module _ (old core regs : List ℕ) (g : Registers) (room : Room old core regs) {words : List ℕ} {n : ℕ} (read : FileRead core old words n) where
   pub step-crossed : (words′ : List ℕ) {core′ regs′ : List ℕ} (a : Answer) → answered a words′ ≡ stepOf words g
-      → crossed (a .number) core′ regs′ ≡ writtenBack (a .number) words′ (a .regs) core regs
-      → crossed (a .number) core′ regs′ ≡ stepBackOf (stepOf (wordsOf (length old) core) g) core regs
+      → stepBytes (a .number) core′ regs′ ≡ writtenBack (a .number) words′ (a .regs) core regs
+      → stepBytes (a .number) core′ regs′ ≡ stepBackOf (stepOf (wordsOf (length old) core) g) core regs
   step-crossed words′ {core′} {regs′} a e h =
       step-back words words′ core core′ regs regs′ g a (read-length old core regs room read) (room .row) e h ∙ ap (λ (ws : List ℕ). stepBackOf (stepOf ws g) core regs) (read-words old core regs room read)
 
-  pub run-crossed : (words′ : List ℕ) {core′ regs′ : List ℕ} (a : Ran) (budget before : ℕ) {after : ℕ} → ranOf a words′ ≡ runOf words g budget
-      → crossed (a .stop) core′ regs′ ≡ writtenBack (a .stop) words′ (a .regs) core regs → after ≡ countBack (a .stop) (a .completed) before
-      → countedBytes (a .stop) core′ regs′ after ≡ runBackOf (runOf (wordsOf (length old) core) g budget) core regs before
-  run-crossed words′ {core′} {regs′} a budget before {after} e h c =
-      run-back words words′ core core′ regs regs′ g a budget before after (read-length old core regs room read) (room .row) e h c
-      ∙ ap (λ (ws : List ℕ). runBackOf (runOf ws g budget) core regs before) (read-words old core regs room read)
+  pub run-crossed : (words′ : List ℕ) {core′ regs′ : List ℕ} (a : Ran) (budget : ℕ) → ranOf a words′ ≡ runOf words g budget
+      → stepBytes (a .stop) core′ regs′ ≡ writtenBack (a .stop) words′ (a .regs) core regs
+      → runBytes (a .stop) core′ regs′ (a .completed) ≡ runBackOf (runOf (wordsOf (length old) core) g budget) core regs
+  run-crossed words′ {core′} {regs′} a budget e h =
+      run-back words words′ core core′ regs regs′ g a budget (read-length old core regs room read) (room .row) e h
+      ∙ ap (λ (ws : List ℕ). runBackOf (runOf ws g budget) core regs) (read-words old core regs room read)
 
 -- ---- room of 32,768 words, of which a core fills the first
 
@@ -196,19 +186,19 @@ module _ (all core regs : List ℕ) (full : length all ≡ 32768) {g : Registers
   pub part-room : Room (take (length core / 6) all) core regs
   part-room = whole-room all core full (taken-good (length core) regs taken .core) regs (taken-good (length core) regs taken .row)
 
-  pub step-came : {x : Crossed} → x ≡ stepBackOf (stepOf (wordsOf (length (take (length core / 6) all)) core) g) core regs → x ≡ stepBytesOf core regs
+  pub step-came : {x : StepBytes} → x ≡ stepBackOf (stepOf (wordsOf (length (take (length core / 6) all)) core) g) core regs → x ≡ stepBytesOf core regs
   unfolding stepBytesOf stepTakenOf
   step-came e = e ∙ rw (part-length, taken)
 
-  pub run-came : (budget before : ℕ) {x : Counted} → x ≡ runBackOf (runOf (wordsOf (length (take (length core / 6) all)) core) g budget) core regs before → x ≡ runBytesOf core regs budget before
+  pub run-came : (budget : ℕ) {x : RunBytes} → x ≡ runBackOf (runOf (wordsOf (length (take (length core / 6) all)) core) g budget) core regs → x ≡ runBytesOf core regs budget
   unfolding runBytesOf runTakenOf
-  run-came budget before e = e ∙ rw (part-length, taken)
+  run-came budget e = e ∙ rw (part-length, taken)
 
 module _ (core regs : List ℕ) {n : ℕ} (refused : rowTakenOf (length core) regs ≡ Refused n) where
-  pub step-refused : crossed n core regs ≡ stepBytesOf core regs
+  pub step-refused : stepBytes n core regs ≡ stepBytesOf core regs
   unfolding stepBytesOf stepTakenOf
   step-refused = rw refused
 
-  pub run-refused : (budget before : ℕ) → countedBytes n core regs before ≡ runBytesOf core regs budget before
+  pub run-refused : (budget : ℕ) → runBytes n core regs 0 ≡ runBytesOf core regs budget
   unfolding runBytesOf runTakenOf
-  run-refused budget before = rw refused
+  run-refused budget = rw refused

@@ -4,7 +4,7 @@ use mathlib.Core.Path.{_≡_}
 use mathlib.Core.List.{List}
 use Rattle.word.proofs.Sole.{sole}
 use Rattle.inspector.specs.declared.verdict.Verdict.{Verdict}
-use Rattle.cabinet.specs.Crossings.{LoadedBytes, Crossed, Counted, stepBytesOf, runBytesOf}
+use Rattle.cabinet.specs.Crossings.{LoadedBytes, StepBytes, RunBytes, stepBytesOf, runBytesOf}
 use Rattle.cabinet.specs.Arrays.{Handed, handedBytesOf}
 use Rattle.cabinet.specs.Inspections.{inspectBytesOf}
 use Rattle.cabinet.specs.Posts.{PostBytes, PostsBytes}
@@ -12,11 +12,11 @@ use Rattle.cabinet.specs.Posts.{PostBytes, PostsBytes}
 pub load-sole : (file old new new′ : List ℕ) (r r′ : ℕ) → LoadedBytes file old new r → LoadedBytes file old new′ r′ → (r ≡ r′) × (new ≡ new′)
 load-sole file old new new′ r r′ p q = (sole (p .number) (q .number), sole (p .core) (q .core))
 
-pub step-sole : (core regs : List ℕ) {x x′ : Crossed} → x ≡ stepBytesOf core regs → x′ ≡ stepBytesOf core regs → x ≡ x′
+pub step-sole : (core regs : List ℕ) {x x′ : StepBytes} → x ≡ stepBytesOf core regs → x′ ≡ stepBytesOf core regs → x ≡ x′
 step-sole core regs p q = sole p q
 
-pub run-sole : (core regs : List ℕ) (budget before : ℕ) {x x′ : Counted} → x ≡ runBytesOf core regs budget before → x′ ≡ runBytesOf core regs budget before → x ≡ x′
-run-sole core regs budget before p q = sole p q
+pub run-sole : (core regs : List ℕ) (budget : ℕ) {x x′ : RunBytes} → x ≡ runBytesOf core regs budget → x′ ≡ runBytesOf core regs budget → x ≡ x′
+run-sole core regs budget p q = sole p q
 
 pub hand-out-sole : (core : List ℕ) (r cell : ℕ) {x x′ : Handed} → x ≡ handedBytesOf core r cell → x′ ≡ handedBytesOf core r cell → x ≡ x′
 hand-out-sole core r cell p q = sole p q

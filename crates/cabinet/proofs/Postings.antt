@@ -19,7 +19,7 @@ use Rattle.post.specs.Posting.{Posting, postOf, postedOf, Guarantees, Posts}
 use Rattle.post.proofs.Postings.{guarantees, post-fit}
 use Rattle.cabinet.specs.Lengths.{coreNumberOf}
 use Rattle.cabinet.specs.Rows.{rowOf}
-use Rattle.cabinet.specs.Crossings.{Crossed, crossed, stepBackOf}
+use Rattle.cabinet.specs.Crossings.{StepBytes, stepBytes, stepBackOf}
 use Rattle.cabinet.specs.Posts.{PostBytes, postBytes, postNumberOf, postBackOf, postBytesOf, PostGuards, PostsBytes}
 use Rattle.cabinet.proofs.Counts.{core-whole}
 use Rattle.cabinet.proofs.Sets.{Good}
@@ -40,12 +40,12 @@ number-good n regs e = by (eqb (coreNumberOf n) 0) (eqb (length regs) 66) refl r
 -- ---- a posting, handed back
 
 ran-back : (p : Posting) (core core′ regs regs′ : List ℕ) → p .number ≡ 0 → refusalOf (p .core) (p .regs) ≡ 0 → length core ≡ 6 * length (p .core) → length regs ≡ 66
-    → crossed 0 core′ regs′ ≡ writtenBack 0 (p .core) (p .regs) core regs
+    → stepBytes 0 core′ regs′ ≡ writtenBack 0 (p .core) (p .regs) core regs
     → postBytes (p .number) core′ regs′ (p .place) (p .stop) (p .completed) ≡ postBackOf p core regs
 unfolding postBackOf stepBackOf if_then_else_
 ran-back p core core′ regs regs′ z f l r h =
-    let w : crossed 0 core′ regs′ ≡ crossed 0 (bytesOf (p .core)) (bytesOf (rowOf (p .regs))) = h ∙ left-back 0 (p .core) core regs (p .regs) (λ _. (f, l)) r in
-    rw (eq-eqb (p .number) 0 z) (ap (λ (x : Crossed). postBytes (p .number) (x .core) (x .regs) (p .place) (p .stop) (p .completed)) w)
+    let w : stepBytes 0 core′ regs′ ≡ stepBytes 0 (bytesOf (p .core)) (bytesOf (rowOf (p .regs))) = h ∙ left-back 0 (p .core) core regs (p .regs) (λ _. (f, l)) r in
+    rw (eq-eqb (p .number) 0 z) (ap (λ (x : StepBytes). postBytes (p .number) (x .core) (x .regs) (p .place) (p .stop) (p .completed)) w)
 
 module _ (old core regs : List ℕ) (room : Room old core regs) {words : List ℕ} {n : ℕ} (read : FileRead core old words n) (sheet : List ℕ) (budget : ℕ) (words′ : List ℕ) (a : Posted) (e : Posts words sheet budget (postedOf a words′)) where
   of-bytes : {x : PostBytes} → x ≡ postBackOf (postedOf a words′) core regs → x ≡ postBackOf (postOf (wordsOf (length old) core) sheet budget) core regs
@@ -53,7 +53,7 @@ module _ (old core regs : List ℕ) (room : Room old core regs) {words : List �
       h ∙ ap (λ (p : Posting). postBackOf p core regs) (e .same)
       ∙ ap (λ (ws : List ℕ). postBackOf (postOf ws sheet budget) core regs) (read-words old core regs room read)
 
-  pub post-ran : {core′ regs′ : List ℕ} → a .number ≡ 0 → crossed 0 core′ regs′ ≡ writtenBack 0 words′ (a .regs) core regs
+  pub post-ran : {core′ regs′ : List ℕ} → a .number ≡ 0 → stepBytes 0 core′ regs′ ≡ writtenBack 0 words′ (a .regs) core regs
       → postBytes (a .number) core′ regs′ (a .place) (a .stop) (a .completed) ≡ postBackOf (postOf (wordsOf (length old) core) sheet budget) core regs
   post-ran {core′} {regs′} z h =
       let size : length words′ ≡ length words = e .guarded .posted z .size in

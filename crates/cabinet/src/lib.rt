@@ -18,7 +18,7 @@ use crate::turns::run_in;
 use crate::turns::step_in;
 ghost use mathlib.Core.Path.{_≡_};
 ghost use lib.ListN.{length};
-ghost use Rattle.cabinet.specs.Crossings.{LoadedBytes, crossed, countedBytes, stepBytesOf, runBytesOf};
+ghost use Rattle.cabinet.specs.Crossings.{LoadedBytes, stepBytes, runBytes, stepBytesOf, runBytesOf};
 ghost use Rattle.cabinet.specs.Arrays.{handed, handedBytesOf};
 ghost use Rattle.inspector.specs.Verdicts.{given};
 ghost use Rattle.cabinet.specs.Inspections.{inspectBytesOf};
@@ -46,7 +46,7 @@ pub extern "C" fn fifty_five_load(file: &[u8], core: &mut [u8]) -> u64
 // One syllable. The checks are 4, 1, 3 in this order; then the machine answers.
 #[no_mangle]
 pub extern "C" fn fifty_five_step(core: &mut [u8], regs: &mut [u8]) -> u64
-    ensures { λ r. ⌜ crossed r (now (core .exit)) (now (regs .exit)) ≡ stepBytesOf (now (core .entry)) (now (regs .entry)) ⌝ }
+    ensures { λ r. ⌜ stepBytes r (now (core .exit)) (now (regs .exit)) ≡ stepBytesOf (now (core .entry)) (now (regs .entry)) ⌝ }
 {
     let n = core.len();
     match take(n, &regs[..]) {
@@ -66,7 +66,7 @@ pub extern "C" fn fifty_five_run(
     budget: u64,
     completed: &mut u64,
 ) -> u64
-    ensures { λ r. ⌜ countedBytes r (now (core .exit)) (now (regs .exit)) (now (completed .exit)) ≡ runBytesOf (now (core .entry)) (now (regs .entry)) budget (now (completed .entry)) ⌝ }
+    ensures { λ r. ⌜ runBytes r (now (core .exit)) (now (regs .exit)) (now (completed .exit)) ≡ runBytesOf (now (core .entry)) (now (regs .entry)) budget ⌝ }
 {
     let n = core.len();
     match take(n, &regs[..]) {
@@ -74,7 +74,10 @@ pub extern "C" fn fifty_five_run(
             let mut words = room();
             run_in(&mut words[..n / 6], core, regs, g, budget, completed)
         }
-        Taken::Refused(number) => number,
+        Taken::Refused(number) => {
+            *completed = 0;
+            number
+        }
     }
 }
 

@@ -33,13 +33,13 @@ same-length-2 : tie.Need-same-length-2
 same-length-2 c = search needs
 
 returns : tie.Need-returns
-returns c = run-came _ _ _ (c .before .before .before .before .before .before .before .before .before .before .room .ensures) (sym (c .before .before .before .before .before .before .before .before .before .before .before .before .before .before .take .ensures) ∙ c .before .before .before .before .before .before .before .before .before .before .before .before .g .given .1) _ _ (c .before .before .before .before .before .run-in .ensures)
+returns c = run-came _ _ _ (c .before .before .before .before .before .before .before .before .before .before .room .ensures) (sym (c .before .before .before .before .before .before .before .before .before .before .before .before .before .before .take .ensures) ∙ c .before .before .before .before .before .before .before .before .before .before .before .before .g .given .1) _ (c .before .before .before .before .before .run-in .ensures)
 
 same-length-3 : tie.Need-same-length-3
 same-length-3 c = search needs
 
 returns-2 : tie.Need-returns-2
-returns-2 c = run-refused _ _ (sym (c .before .before .before .take .ensures) ∙ c .before .number .given .1) _ _
+returns-2 c = run-refused _ _ (sym (c .before .before .before .take .ensures) ∙ c .before .number .given .1) _
 
 pub fifty-five-run-spec : {M : Type 1} → statement M
 fifty-five-run-spec =

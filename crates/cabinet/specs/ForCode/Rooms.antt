@@ -7,7 +7,7 @@ use lib.ListN.{length, getD}
 use Rattle.word.specs.Choices.{if_then_else_}
 use Rattle.machine.specs.declared.outcome.Registers.{Registers}
 use Rattle.tape.specs.Files.{writeFileOf}
-use Rattle.cabinet.specs.Crossings.{Crossed, crossed, refuses}
+use Rattle.cabinet.specs.Crossings.{StepBytes, stepBytes, refuses}
 use Rattle.cabinet.specs.Rows.{rowOf}
 
 -- Room for exactly the words that the bytes of a core say.
@@ -24,12 +24,9 @@ pub record Room (words core regs : List ℕ) : Type 0 where
   pub row : length regs ≡ 66
 
 -- What is left by a number, words and a set: tape's writing, where the number does not refuse.
-unfoldable pub writtenBack : ℕ → List ℕ → Registers → List ℕ → List ℕ → Crossed
+unfoldable pub writtenBack : ℕ → List ℕ → Registers → List ℕ → List ℕ → StepBytes
 writtenBack n words g core regs =
-    if refuses n then crossed n core regs else crossed n (writeFileOf words core) (writeFileOf (rowOf g) regs)
-
-unfoldable pub countBack : ℕ → ℕ → ℕ → ℕ
-countBack n completed old = if refuses n then old else completed
+    if refuses n then stepBytes n core regs else stepBytes n (writeFileOf words core) (writeFileOf (rowOf g) regs)
 
 -- The same, where the row's numbers become registers.
 pub record RowRanged (row : List ℕ) : Type 0 where

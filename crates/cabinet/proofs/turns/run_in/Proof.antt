@@ -13,9 +13,6 @@ run-requires c κs = search needs
 hand-back-requires : tie.Need-hand-back-requires
 hand-back-requires c κs = search needs
 
-count-requires : tie.Need-count-requires
-count-requires c κs = search needs
-
 same-length : tie.Need-same-length
 same-length c = search needs
 
@@ -26,7 +23,7 @@ same-length-3 : tie.Need-same-length-3
 same-length-3 c = search needs
 
 returns : tie.Need-returns
-returns c = run-crossed _ _ _ _ (c .before .before .before .before .before .before .before .before .before .before .before .before .before .before .before .before .before .before .before .before .before .before .pre) (c .before .before .before .before .before .before .before .before .before .before .before .before .before .before .before .before .read-file .ensures) _ _ _ _ (c .before .before .before .before .before .before .before .before .before .before .before .before .run .ensures) (c .before .before .before .before .before .before .hand-back .ensures) (c .count .ensures)
+returns c = run-crossed _ _ _ _ (c .before .before .before .before .before .before .before .before .before .before .before .before .before .before .before .before .before .before .before .before .pre) (c .before .before .before .before .before .before .before .before .before .before .before .before .before .before .read-file .ensures) _ _ _ (c .before .before .before .before .before .before .before .before .before .before .run .ensures) (c .before .before .before .before .hand-back .ensures)
 
 pub run-in-spec : {M : Type 1} → statement M
 run-in-spec =
@@ -35,7 +32,6 @@ run-in-spec =
     read-file-requires
     run-requires
     hand-back-requires
-    count-requires
     same-length
     same-length-2
     same-length-3
