@@ -1,19 +1,16 @@
 -- What each plug answers, and the bytes that it leaves.
-use Prim.Native.Nat.{ℕ, _*_, _/_, _<_, _≤_}
+use Prim.Native.Nat.{ℕ, _/_}
 use mathlib.Core.Path.{_≡_}
-use mathlib.Core.Bool.{Bool, true, false, _&&_}
+use mathlib.Core.Bool.{Bool, _&&_}
 use mathlib.Core.List.{List}
 use lib.Dec.{eqb, ltb}
 use lib.ListN.{length}
-use Rattle.machine.specs.declared.outcome.Registers.{Registers}
 use Rattle.word.specs.Choices.{if_then_else_}
 use Rattle.machine.specs.Steps.{Stepped, stepOf}
 use Rattle.machine.specs.Runs.{Run, runOf}
-use Rattle.tape.specs.Files.{wordsOf, bytesOf, writeFileOf}
-use Rattle.cabinet.specs.declared.rows.Taken.{Taken}
-use Rattle.cabinet.specs.declared.rows.Taken.the-variants.{Set, Refused}
+use Rattle.tape.specs.Files.{wordsOf, bytesOf}
 use Rattle.cabinet.specs.Lengths.{loadNumberOf}
-use Rattle.cabinet.specs.Rows.{rowOf, rowTakenOf}
+use Rattle.cabinet.specs.Rows.{rowOf, setOf, rowNumberOf}
 
 -- ---- load
 
@@ -42,12 +39,10 @@ unfoldable pub stepBackOf : Stepped → List ℕ → List ℕ → StepBytes
 stepBackOf s core regs =
     if refuses (s .number) then stepBytes (s .number) core regs else stepBytes (s .number) (bytesOf (s .core)) (bytesOf (rowOf (s .regs)))
 
-unfoldable pub stepTakenOf : Taken → List ℕ → List ℕ → StepBytes
-stepTakenOf (Set g) core regs = stepBackOf (stepOf (wordsOf (length core / 6) core) g) core regs
-stepTakenOf (Refused n) core regs = stepBytes n core regs
-
 unfoldable pub stepBytesOf : List ℕ → List ℕ → StepBytes
-stepBytesOf core regs = stepTakenOf (rowTakenOf (length core) regs) core regs
+stepBytesOf core regs =
+    if eqb (rowNumberOf (length core) regs) 0 then stepBackOf (stepOf (wordsOf (length core / 6) core) (setOf (wordsOf 11 regs))) core regs
+    else stepBytes (rowNumberOf (length core) regs) core regs
 
 -- ---- run
 
@@ -64,9 +59,7 @@ runBackOf r core regs =
     record { left = stepBackOf (record { number = r .stop; core = r .core; regs = r .regs }) core regs; completed = r .completed }
 
 -- A refusal completes none.
-unfoldable pub runTakenOf : Taken → List ℕ → List ℕ → ℕ → RunBytes
-runTakenOf (Set g) core regs budget = runBackOf (runOf (wordsOf (length core / 6) core) g budget) core regs
-runTakenOf (Refused n) core regs budget = runBytes n core regs 0
-
 unfoldable pub runBytesOf : List ℕ → List ℕ → ℕ → RunBytes
-runBytesOf core regs budget = runTakenOf (rowTakenOf (length core) regs) core regs budget
+runBytesOf core regs budget =
+    if eqb (rowNumberOf (length core) regs) 0 then runBackOf (runOf (wordsOf (length core / 6) core) (setOf (wordsOf 11 regs)) budget) core regs
+    else runBytes (rowNumberOf (length core) regs) core regs 0
