@@ -126,7 +126,7 @@ void panel_step(struct panel *panel)
 
 void panel_run(struct panel *panel, const char *count)
 {
-    uint64_t budget, number, done = 0;
+    uint64_t budget, number, done;
 
     if (!read_decimal(count, &budget)) {
         panel_say(panel, "not a decimal count: '%.60s'", count);

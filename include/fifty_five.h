@@ -84,7 +84,7 @@ uint64_t fifty_five_step(uint8_t *core, size_t core_length, uint8_t *registers, 
  * Syllables until a stop, or until `budget` are completed.
  * Answers 0 (the budget is spent), 17, 4, 1, 3, 5 in this order, or the stop of the last syllable;
  * core and registers are then as before that syllable. *completed is the count of completed
- * syllables, COM included; a refusal (1 to 5) leaves it as it was.
+ * syllables, COM included. It is written by every call, 0 by a refusal (1 to 5).
  */
 uint64_t fifty_five_run(uint8_t *core, size_t core_length, uint8_t *registers, size_t registers_length,
                         uint64_t budget, uint64_t *completed);

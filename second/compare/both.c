@@ -92,7 +92,7 @@ struct verdict both_step(struct state *st) { return both_step_watched(st, NULL);
 struct verdict both_run(struct state *st, uint64_t budget)
 {
     take_over(st);
-    uint64_t completed = 0;
+    uint64_t completed = UINT64_MAX; /* every call writes it */
     uint64_t ours = fifty_five_run(core_bytes, WORD * st->length, row_bytes, ROW, budget, &completed);
     struct verdict v = {0};
     v.number = (uint64_t)second_run(st->core, st->length, &st->g, budget, &v.completed);

@@ -163,9 +163,10 @@ unsigned group_malformed(uint64_t count)
             number = fifty_five_step(core, call.core_length, row, call.row_length);
         if (number != expected)
             failures += failed("malformed", i, "a wrong number", number, expected);
-        if (memcmp(core, before, call.core_length) != 0 || memcmp(row, row_before, sizeof row) != 0 ||
-            completed != MARK)
+        if (memcmp(core, before, call.core_length) != 0 || memcmp(row, row_before, sizeof row) != 0)
             failures += failed("malformed", i, "a refusal has written", number, expected);
+        if (run && completed != 0)
+            failures += failed("malformed", i, "a refused run's count", completed, 0);
         /* Where the lengths are good the second machine is asked too. */
         if (call.core_length != WORD * call.st.length || call.row_length != ROW)
             continue;

@@ -4,7 +4,7 @@ use mathlib.Core.Path.{_≡_, refl, sym, _∙_, ap}
 use mathlib.Core.Bool.{Bool, true, false, true≢false}
 use mathlib.Core.List.{List}
 use native.Mathlib.Omega.{arith}
-use borrow.Author.Tests.{eq-eqb, eqb-true}
+use borrow.Author.Tests.{eq-eqb, ne-eqb, eqb-true}
 use lib.Dec.{eqb, leb}
 use lib.ListN.{length, take}
 use lib.Seq.{length-take-le}
@@ -25,12 +25,12 @@ use Rattle.tape.proofs.Backs.{length-fits}
 use Rattle.tape.proofs.Numbers.{write-fits}
 use Rattle.tape.proofs.Bytes.{write-yes}
 use Rattle.tape.proofs.Words.{words-length}
-use Rattle.cabinet.specs.declared.rows.Taken.the-variants.{Set, Refused}
-use Rattle.cabinet.specs.Rows.{rowOf, rowTakenOf}
-use Rattle.cabinet.specs.Crossings.{Crossed, crossed, refuses, stepBackOf, stepTakenOf, stepBytesOf, Counted, countedBytes, runBackOf, runTakenOf, runBytesOf}
-use Rattle.cabinet.proofs.Sets.{row-words, row-length, read-exact, taken-good}
+use Rattle.cabinet.specs.Rows.{rowOf, setOf, rowNumberOf}
+use Rattle.cabinet.specs.Crossings.{StepBytes, stepBytes, refuses, stepBackOf, stepBytesOf, RunBytes, runBytes, runBackOf, runBytesOf}
+use Rattle.cabinet.proofs.Sets.{row-words, row-length, read-exact, row-good}
+use Rattle.cabinet.proofs.NarrowSets.{narrowed}
 use Rattle.cabinet.proofs.Counts.{Whole}
-use Rattle.cabinet.specs.ForCode.Rooms.{Room, writtenBack, countBack}
+use Rattle.cabinet.specs.ForCode.Rooms.{Room, writtenBack, narrowSet}
 
 -- ---- a number that does not refuse
 
@@ -95,20 +95,20 @@ unfolding writtenBack stepBackOf if_then_else_
 left-back n words core regs g h r = by (refuses n) h
   where
     by : (b : Bool) → (b ≡ false → (refusalOf words g ≡ 0) × (length core ≡ 6 * length words))
-        → (if b then crossed n core regs else crossed n (writeFileOf words core) (writeFileOf (rowOf g) regs)) ≡ (if b then crossed n core regs else crossed n (bytesOf words) (bytesOf (rowOf g)))
+        → (if b then stepBytes n core regs else stepBytes n (writeFileOf words core) (writeFileOf (rowOf g) regs)) ≡ (if b then stepBytes n core regs else stepBytes n (bytesOf words) (bytesOf (rowOf g)))
     by true h = refl
     by false h = rw (core-written words core g (h refl .0) (h refl .1), row-written words regs g (h refl .0) r)
 
 pub hands-back : (n : ℕ) (words core regs : List ℕ) (g : Registers) {core′ regs′ row : List ℕ} → refuses n ≡ false → core′ ≡ writeFileOf words core → row ≡ rowOf g → regs′ ≡ writeFileOf row regs
-    → crossed n core′ regs′ ≡ writtenBack n words g core regs
+    → stepBytes n core′ regs′ ≡ writtenBack n words g core regs
 unfolding writtenBack if_then_else_
 hands-back n words core regs g f c r e = rw (f, c, e, r)
 
 -- ---- a step and a run, handed back
 
 step-back : (words words′ core core′ regs regs′ : List ℕ) (g : Registers) (a : Answer) → length core ≡ 6 * length words → length regs ≡ 66
-    → answered a words′ ≡ stepOf words g → crossed (a .number) core′ regs′ ≡ writtenBack (a .number) words′ (a .regs) core regs
-    → crossed (a .number) core′ regs′ ≡ stepBackOf (stepOf words g) core regs
+    → answered a words′ ≡ stepOf words g → stepBytes (a .number) core′ regs′ ≡ writtenBack (a .number) words′ (a .regs) core regs
+    → stepBytes (a .number) core′ regs′ ≡ stepBackOf (stepOf words g) core regs
 step-back words words′ core core′ regs regs′ g a l r e h =
     h ∙ left-back (a .number) words′ core regs (a .regs) fits r ∙ ap (λ (s : Stepped). stepBackOf s core regs) e
   where
@@ -118,26 +118,16 @@ step-back words words′ core core′ regs regs′ g a l r e h =
         let same : length words′ ≡ length words = ap (λ (s : Stepped). length (s .core)) e ∙ step-length words g z in
         (ap (λ (s : Stepped). refusalOf (s .core) (s .regs)) e ∙ step-fit words g z, omega arith)
 
--- The count goes with the bytes.
-count-back : (r : Run) (core core′ regs regs′ : List ℕ) (old : ℕ) → crossed (r .stop) core′ regs′ ≡ stepBackOf (record { number = r .stop; core = r .core; regs = r .regs }) core regs
-    → countedBytes (r .stop) core′ regs′ (countBack (r .stop) (r .completed) old) ≡ runBackOf r core regs old
-unfolding stepBackOf runBackOf countBack if_then_else_
-count-back r core core′ regs regs′ old e = by (refuses (r .stop)) e
+run-back : (words words′ core core′ regs regs′ : List ℕ) (g : Registers) (a : Ran) (budget : ℕ) → length core ≡ 6 * length words → length regs ≡ 66
+    → ranOf a words′ ≡ runOf words g budget → stepBytes (a .stop) core′ regs′ ≡ writtenBack (a .stop) words′ (a .regs) core regs
+    → runBytes (a .stop) core′ regs′ (a .completed) ≡ runBackOf (runOf words g budget) core regs
+unfolding runBackOf
+run-back words words′ core core′ regs regs′ g a budget l r e h =
+    ap counting (h ∙ left-back (a .stop) words′ core regs (a .regs) fits r) ∙ ap (λ (s : Run). runBackOf s core regs) e
   where
-    by : (b : Bool) → crossed (r .stop) core′ regs′ ≡ (if b then crossed (r .stop) core regs else crossed (r .stop) (bytesOf (r .core)) (bytesOf (rowOf (r .regs))))
-        → countedBytes (r .stop) core′ regs′ (if b then old else r .completed)
-        ≡ (if b then countedBytes (r .stop) core regs old else countedBytes (r .stop) (bytesOf (r .core)) (bytesOf (rowOf (r .regs))) (r .completed))
-    by true e = ap (λ (x : Crossed). countedBytes (r .stop) (x .core) (x .regs) old) e
-    by false e = ap (λ (x : Crossed). countedBytes (r .stop) (x .core) (x .regs) (r .completed)) e
+    counting : StepBytes → RunBytes
+    counting x = record { left = x; completed = a .completed }
 
-run-back : (words words′ core core′ regs regs′ : List ℕ) (g : Registers) (a : Ran) (budget old new : ℕ) → length core ≡ 6 * length words → length regs ≡ 66
-    → ranOf a words′ ≡ runOf words g budget → crossed (a .stop) core′ regs′ ≡ writtenBack (a .stop) words′ (a .regs) core regs → new ≡ countBack (a .stop) (a .completed) old
-    → countedBytes (a .stop) core′ regs′ new ≡ runBackOf (runOf words g budget) core regs old
-run-back words words′ core core′ regs regs′ g a budget old new l r e h c =
-    ap (λ (n : ℕ). countedBytes (a .stop) core′ regs′ n) c
-    ∙ count-back (ranOf a words′) core core′ regs regs′ old (h ∙ left-back (a .stop) words′ core regs (a .regs) fits r)
-    ∙ ap (λ (s : Run). runBackOf s core regs old) e
-  where
     fits : refuses (a .stop) ≡ false → (refusalOf words′ (a .regs) ≡ 0) × (length core ≡ 6 * length words′)
     fits f =
         let z : refusalOf words g ≡ 0 = run-accepted words g budget (ap (λ (s : Run). refuses (s .stop)) (sym e) ∙ f) in
@@ -153,19 +143,32 @@ module _ (old core regs : List ℕ) (room : Room old core regs) {words : List �
   pub read-length : length core ≡ 6 * length words
   read-length = room .exact ∙ ap (λ (k : ℕ). 6 * k) (sym (ap length read-words ∙ words-length (length old) core))
 
-module _ (old core regs : List ℕ) (g : Registers) (room : Room old core regs) {words : List ℕ} {n : ℕ} (read : FileRead core old words n) where
-  pub step-crossed : (words′ : List ℕ) {core′ regs′ : List ℕ} (a : Answer) → answered a words′ ≡ stepOf words g
-      → crossed (a .number) core′ regs′ ≡ writtenBack (a .number) words′ (a .regs) core regs
-      → crossed (a .number) core′ regs′ ≡ stepBackOf (stepOf (wordsOf (length old) core) g) core regs
-  step-crossed words′ {core′} {regs′} a e h =
-      step-back words words′ core core′ regs regs′ g a (read-length old core regs room read) (room .row) e h ∙ ap (λ (ws : List ℕ). stepBackOf (stepOf ws g) core regs) (read-words old core regs room read)
+step-away : (words core regs : List ℕ) (g : Registers) → (refusalOf words g ≡ 0 → ⊥) → stepBackOf (stepOf words g) core regs ≡ stepBytes (refusalOf words g) core regs
+unfolding stepOf stepBackOf if_then_else_
+step-away words core regs g n = rw (ne-eqb (refusalOf words g) 0 n, refusal-refuses words g n)
 
-  pub run-crossed : (words′ : List ℕ) {core′ regs′ : List ℕ} (a : Ran) (budget before : ℕ) {after : ℕ} → ranOf a words′ ≡ runOf words g budget
-      → crossed (a .stop) core′ regs′ ≡ writtenBack (a .stop) words′ (a .regs) core regs → after ≡ countBack (a .stop) (a .completed) before
-      → countedBytes (a .stop) core′ regs′ after ≡ runBackOf (runOf (wordsOf (length old) core) g budget) core regs before
-  run-crossed words′ {core′} {regs′} a budget before {after} e h c =
-      run-back words words′ core core′ regs regs′ g a budget before after (read-length old core regs room read) (room .row) e h c
-      ∙ ap (λ (ws : List ℕ). runBackOf (runOf ws g budget) core regs before) (read-words old core regs room read)
+run-away : (words core regs : List ℕ) (budget : ℕ) (g : Registers) → (refusalOf words g ≡ 0 → ⊥) → runBackOf (runOf words g budget) core regs ≡ runBytes (refusalOf words g) core regs 0
+unfolding runOf runBackOf stepBackOf if_then_else_
+run-away words core regs budget g n = rw (ne-eqb (refusalOf words g) 0 n, refusal-refuses words g n)
+
+module _ (old core regs : List ℕ) (room : Room old core regs) {words : List ℕ} {n : ℕ} (read : FileRead core old words n) (g : Registers) {h : Registers} (narrow : h ≡ narrowSet g) where
+  pub step-crossed : (words′ : List ℕ) {core′ regs′ : List ℕ} (a : Answer) → answered a words′ ≡ stepOf words h
+      → stepBytes (a .number) core′ regs′ ≡ writtenBack (a .number) words′ (a .regs) core regs
+      → stepBytes (a .number) core′ regs′ ≡ stepBackOf (stepOf (wordsOf (length old) core) g) core regs
+  step-crossed words′ {core′} {regs′} a e w =
+      step-back words words′ core core′ regs regs′ h a (read-length old core regs room read) (room .row) e w
+      ∙ ap (λ (x : Registers). stepBackOf (stepOf words x) core regs) narrow
+      ∙ narrowed (λ (x : Registers). stepBackOf (stepOf words x) core regs) (λ (k : ℕ). stepBytes k core regs) words g (step-away words core regs)
+      ∙ ap (λ (ws : List ℕ). stepBackOf (stepOf ws g) core regs) (read-words old core regs room read)
+
+  pub run-crossed : (words′ : List ℕ) {core′ regs′ : List ℕ} (a : Ran) (budget : ℕ) → ranOf a words′ ≡ runOf words h budget
+      → stepBytes (a .stop) core′ regs′ ≡ writtenBack (a .stop) words′ (a .regs) core regs
+      → runBytes (a .stop) core′ regs′ (a .completed) ≡ runBackOf (runOf (wordsOf (length old) core) g budget) core regs
+  run-crossed words′ {core′} {regs′} a budget e w =
+      run-back words words′ core core′ regs regs′ h a budget (read-length old core regs room read) (room .row) e w
+      ∙ ap (λ (x : Registers). runBackOf (runOf words x budget) core regs) narrow
+      ∙ narrowed (λ (x : Registers). runBackOf (runOf words x budget) core regs) (λ (k : ℕ). runBytes k core regs 0) words g (run-away words core regs budget)
+      ∙ ap (λ (ws : List ℕ). runBackOf (runOf ws g budget) core regs) (read-words old core regs room read)
 
 -- ---- room of 32,768 words, of which a core fills the first
 
@@ -186,29 +189,20 @@ module _ (all core : List ℕ) (full : length all ≡ 32768) (w : Whole (length 
       let most : length core ≤ 196608 = w .most in
       record { some = omega arith; most = omega arith; exact = omega arith; row = row }
 
-module _ (all core regs : List ℕ) (full : length all ≡ 32768) {g : Registers} (taken : rowTakenOf (length core) regs ≡ Set g) where
-  pub words-most : length core / 6 ≤ length all
-  words-most = whole-most all core full (taken-good (length core) regs taken .core)
+module _ (all core regs : List ℕ) (full : length all ≡ 32768) (z : rowNumberOf (length core) regs ≡ 0) where
+  pub step-came : {x : StepBytes} → x ≡ stepBackOf (stepOf (wordsOf (length (take (length core / 6) all)) core) (setOf (wordsOf 11 regs))) core regs → x ≡ stepBytesOf core regs
+  unfolding stepBytesOf if_then_else_
+  step-came e = e ∙ rw (whole-length all core full (row-good (length core) regs z .core), eq-eqb (rowNumberOf (length core) regs) 0 z)
 
-  pub part-length : length (take (length core / 6) all) ≡ length core / 6
-  part-length = whole-length all core full (taken-good (length core) regs taken .core)
+  pub run-came : (budget : ℕ) {x : RunBytes} → x ≡ runBackOf (runOf (wordsOf (length (take (length core / 6) all)) core) (setOf (wordsOf 11 regs)) budget) core regs → x ≡ runBytesOf core regs budget
+  unfolding runBytesOf if_then_else_
+  run-came budget e = e ∙ rw (whole-length all core full (row-good (length core) regs z .core), eq-eqb (rowNumberOf (length core) regs) 0 z)
 
-  pub part-room : Room (take (length core / 6) all) core regs
-  part-room = whole-room all core full (taken-good (length core) regs taken .core) regs (taken-good (length core) regs taken .row)
+module _ (core regs : List ℕ) {n : ℕ} (e : n ≡ rowNumberOf (length core) regs) (z : n ≡ 0 → ⊥) where
+  pub step-refused : stepBytes n core regs ≡ stepBytesOf core regs
+  unfolding stepBytesOf if_then_else_
+  step-refused = rw (← e, ne-eqb n 0 z)
 
-  pub step-came : {x : Crossed} → x ≡ stepBackOf (stepOf (wordsOf (length (take (length core / 6) all)) core) g) core regs → x ≡ stepBytesOf core regs
-  unfolding stepBytesOf stepTakenOf
-  step-came e = e ∙ rw (part-length, taken)
-
-  pub run-came : (budget before : ℕ) {x : Counted} → x ≡ runBackOf (runOf (wordsOf (length (take (length core / 6) all)) core) g budget) core regs before → x ≡ runBytesOf core regs budget before
-  unfolding runBytesOf runTakenOf
-  run-came budget before e = e ∙ rw (part-length, taken)
-
-module _ (core regs : List ℕ) {n : ℕ} (refused : rowTakenOf (length core) regs ≡ Refused n) where
-  pub step-refused : crossed n core regs ≡ stepBytesOf core regs
-  unfolding stepBytesOf stepTakenOf
-  step-refused = rw refused
-
-  pub run-refused : (budget before : ℕ) → countedBytes n core regs before ≡ runBytesOf core regs budget before
-  unfolding runBytesOf runTakenOf
-  run-refused budget before = rw refused
+  pub run-refused : (budget : ℕ) → runBytes n core regs 0 ≡ runBytesOf core regs budget
+  unfolding runBytesOf if_then_else_
+  run-refused budget = rw (← e, ne-eqb n 0 z)

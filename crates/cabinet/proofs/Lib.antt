@@ -1,5 +1,6 @@
 pub mod Counts
 pub mod Sets
+pub mod NarrowSets
 pub mod Backs
 pub mod Rooms
 pub mod Stretches

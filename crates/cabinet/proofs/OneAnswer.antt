@@ -1,28 +1,51 @@
--- Any two permitted answers of a plug are equal, and so are the bytes that they leave.
+-- Any two permitted answers of a call are equal, and so is what they leave behind its references.
 use Prim.Native.Nat.{ℕ}
-use mathlib.Core.Path.{_≡_}
-use mathlib.Core.List.{List}
+use mathlib.Core.Path.{_≡_, ap}
+use denote.Ref.{now}
 use Rattle.word.proofs.Sole.{sole}
 use Rattle.inspector.specs.declared.verdict.Verdict.{Verdict}
-use Rattle.cabinet.specs.Crossings.{LoadedBytes, Crossed, Counted, stepBytesOf, runBytesOf}
-use Rattle.cabinet.specs.Arrays.{Handed, handedBytesOf}
-use Rattle.cabinet.specs.Inspections.{inspectBytesOf}
-use Rattle.cabinet.specs.Posts.{PostBytes, PostsBytes}
+use Rattle.cabinet.specs.Crossings.{StepBytes, RunBytes}
+use Rattle.cabinet.specs.Arrays.{Handed}
+use Rattle.cabinet.specs.Posts.{PostBytes}
+use Rattle.cabinet.proofs.fifty_five_load.Reads as load
+use Rattle.cabinet.proofs.fifty_five_step.Reads as step
+use Rattle.cabinet.proofs.fifty_five_run.Reads as run
+use Rattle.cabinet.proofs.fifty_five_hand_out.Reads as hand-out
+use Rattle.cabinet.proofs.fifty_five_inspect.Reads as inspect
+use Rattle.cabinet.proofs.fifty_five_post.Reads as post
 
-pub load-sole : (file old new new′ : List ℕ) (r r′ : ℕ) → LoadedBytes file old new r → LoadedBytes file old new′ r′ → (r ≡ r′) × (new ≡ new′)
-load-sole file old new new′ r r′ p q = (sole (p .number) (q .number), sole (p .core) (q .core))
+-- The core.
+pub fifty-five-load-sole : (κs : _) (a : _) (r r′ : ℕ) (e e′ : _) → load.Learnt κs a r e → load.Learnt κs a r′ e′
+    → (r ≡ r′) × (now (e .1 .0) ≡ now (e′ .1 .0))
+fifty-five-load-sole κs a r r′ e e′ p q = (sole (p .number) (q .number), sole (p .core) (q .core))
 
-pub step-sole : (core regs : List ℕ) {x x′ : Crossed} → x ≡ stepBytesOf core regs → x′ ≡ stepBytesOf core regs → x ≡ x′
-step-sole core regs p q = sole p q
+-- The core and the register set.
+pub fifty-five-step-sole : (κs : _) (a : _) (r r′ : ℕ) (e e′ : _) → step.Learnt κs a r e → step.Learnt κs a r′ e′
+    → (r ≡ r′) × (now (e .0) ≡ now (e′ .0)) × (now (e .1 .0) ≡ now (e′ .1 .0))
+fifty-five-step-sole κs a r r′ e e′ p q =
+    (ap (λ (x : StepBytes). x .number) (sole p q), ap (λ (x : StepBytes). x .core) (sole p q), ap (λ (x : StepBytes). x .regs) (sole p q))
 
-pub run-sole : (core regs : List ℕ) (budget before : ℕ) {x x′ : Counted} → x ≡ runBytesOf core regs budget before → x′ ≡ runBytesOf core regs budget before → x ≡ x′
-run-sole core regs budget before p q = sole p q
+-- The core, the register set and the count.
+pub fifty-five-run-sole : (κs : _) (a : _) (r r′ : ℕ) (e e′ : _) → run.Learnt κs a r e → run.Learnt κs a r′ e′
+    → (r ≡ r′) × (now (e .0) ≡ now (e′ .0)) × (now (e .1 .0) ≡ now (e′ .1 .0)) × (now (e .1 .1 .1 .0) ≡ now (e′ .1 .1 .1 .0))
+fifty-five-run-sole κs a r r′ e e′ p q =
+    (ap (λ (x : RunBytes). x .left .number) (sole p q), ap (λ (x : RunBytes). x .left .core) (sole p q), ap (λ (x : RunBytes). x .left .regs) (sole p q), ap (λ (x : RunBytes). x .completed) (sole p q))
 
-pub hand-out-sole : (core : List ℕ) (r cell : ℕ) {x x′ : Handed} → x ≡ handedBytesOf core r cell → x′ ≡ handedBytesOf core r cell → x ≡ x′
-hand-out-sole core r cell p q = sole p q
+-- The first word and how many.
+pub fifty-five-hand-out-sole : (κs : _) (a : _) (r r′ : ℕ) (e e′ : _) → hand-out.Learnt κs a r e → hand-out.Learnt κs a r′ e′
+    → (r ≡ r′) × (now (e .1 .1 .1 .0) ≡ now (e′ .1 .1 .1 .0)) × (now (e .1 .1 .1 .1 .0) ≡ now (e′ .1 .1 .1 .1 .0))
+fifty-five-hand-out-sole κs a r r′ e e′ p q =
+    (ap (λ (x : Handed). x .number) (sole p q), ap (λ (x : Handed). x .start) (sole p q), ap (λ (x : Handed). x .count) (sole p q))
 
-pub inspect-sole : (core sheet : List ℕ) {v v′ : Verdict} → v ≡ inspectBytesOf core sheet → v′ ≡ inspectBytesOf core sheet → v ≡ v′
-inspect-sole core sheet p q = sole p q
+-- The place.
+pub fifty-five-inspect-sole : (κs : _) (a : _) (r r′ : ℕ) (e e′ : _) → inspect.Learnt κs a r e → inspect.Learnt κs a r′ e′
+    → (r ≡ r′) × (now (e .1 .1 .0) ≡ now (e′ .1 .1 .0))
+fifty-five-inspect-sole κs a r r′ e e′ p q =
+    (ap (λ (x : Verdict). x .number) (sole p q), ap (λ (x : Verdict). x .place) (sole p q))
 
-pub post-sole : (core sheet : List ℕ) (budget : ℕ) (regs : List ℕ) (x x′ : PostBytes) → PostsBytes core sheet budget regs x → PostsBytes core sheet budget regs x′ → x ≡ x′
-post-sole core sheet budget regs x x′ p q = sole (p .same) (q .same)
+-- The core, the register set, the place, the stop and the count.
+pub fifty-five-post-sole : (κs : _) (a : _) (r r′ : ℕ) (e e′ : _) → post.Learnt κs a r e → post.Learnt κs a r′ e′
+    → (r ≡ r′) × (now (e .0) ≡ now (e′ .0)) × (now (e .1 .1 .1 .0) ≡ now (e′ .1 .1 .1 .0)) × (now (e .1 .1 .1 .1 .0) ≡ now (e′ .1 .1 .1 .1 .0)) × (now (e .1 .1 .1 .1 .1 .0) ≡ now (e′ .1 .1 .1 .1 .1 .0)) × (now (e .1 .1 .1 .1 .1 .1 .0) ≡ now (e′ .1 .1 .1 .1 .1 .1 .0))
+fifty-five-post-sole κs a r r′ e e′ p q =
+    let same = sole (p .same) (q .same) in
+    (ap (λ (x : PostBytes). x .number) same, ap (λ (x : PostBytes). x .core) same, ap (λ (x : PostBytes). x .regs) same, ap (λ (x : PostBytes). x .place) same, ap (λ (x : PostBytes). x .stop) same, ap (λ (x : PostBytes). x .completed) same)

@@ -17,35 +17,22 @@ use Rattle.demands.specs.Leaves.{Leaves}
 use Rattle.post.specs.declared.Posted.{Posted}
 use Rattle.post.specs.Posting.{Posting, postOf, postedOf, Guarantees, Posts}
 use Rattle.post.proofs.Postings.{guarantees, post-fit}
-use Rattle.cabinet.specs.Lengths.{coreNumberOf}
-use Rattle.cabinet.specs.Rows.{rowOf}
-use Rattle.cabinet.specs.Crossings.{Crossed, crossed, stepBackOf}
-use Rattle.cabinet.specs.Posts.{PostBytes, postBytes, postNumberOf, postBackOf, postBytesOf, PostGuards, PostsBytes}
-use Rattle.cabinet.proofs.Counts.{core-whole}
-use Rattle.cabinet.proofs.Sets.{Good}
+use Rattle.cabinet.specs.Rows.{rowOf, lengthsNumberOf}
+use Rattle.cabinet.specs.Crossings.{StepBytes, stepBytes, stepBackOf}
+use Rattle.cabinet.specs.Posts.{PostBytes, postBytes, postBackOf, postBytesOf, PostGuards, PostsBytes}
+use Rattle.cabinet.proofs.Sets.{lengths-good}
 use Rattle.cabinet.proofs.Backs.{fit-parts, left-back, read-words, read-length, whole-length}
 use Rattle.cabinet.specs.ForCode.Rooms.{Room, writtenBack}
-
--- ---- the lengths
-
-pub number-good : (n : ℕ) (regs : List ℕ) → postNumberOf n (length regs) ≡ 0 → Good n regs
-unfolding postNumberOf if_then_else_
-number-good n regs e = by (eqb (coreNumberOf n) 0) (eqb (length regs) 66) refl refl e
-  where
-    by : (a b : Bool) → eqb (coreNumberOf n) 0 ≡ a → eqb (length regs) 66 ≡ b → _≡_ {A = ℕ} (if a then (if b then 0 else 3) else coreNumberOf n) 0 → Good n regs
-    by true true p q e = record { core = core-whole n (eqb-true (coreNumberOf n) 0 p); row = eqb-true (length regs) 66 q }
-    by true false p q e = absurd (omega arith)
-    by false b p q e = absurd (true≢false (sym (eq-eqb (coreNumberOf n) 0 e) ∙ p))
 
 -- ---- a posting, handed back
 
 ran-back : (p : Posting) (core core′ regs regs′ : List ℕ) → p .number ≡ 0 → refusalOf (p .core) (p .regs) ≡ 0 → length core ≡ 6 * length (p .core) → length regs ≡ 66
-    → crossed 0 core′ regs′ ≡ writtenBack 0 (p .core) (p .regs) core regs
+    → stepBytes 0 core′ regs′ ≡ writtenBack 0 (p .core) (p .regs) core regs
     → postBytes (p .number) core′ regs′ (p .place) (p .stop) (p .completed) ≡ postBackOf p core regs
 unfolding postBackOf stepBackOf if_then_else_
 ran-back p core core′ regs regs′ z f l r h =
-    let w : crossed 0 core′ regs′ ≡ crossed 0 (bytesOf (p .core)) (bytesOf (rowOf (p .regs))) = h ∙ left-back 0 (p .core) core regs (p .regs) (λ _. (f, l)) r in
-    rw (eq-eqb (p .number) 0 z) (ap (λ (x : Crossed). postBytes (p .number) (x .core) (x .regs) (p .place) (p .stop) (p .completed)) w)
+    let w : stepBytes 0 core′ regs′ ≡ stepBytes 0 (bytesOf (p .core)) (bytesOf (rowOf (p .regs))) = h ∙ left-back 0 (p .core) core regs (p .regs) (λ _. (f, l)) r in
+    rw (eq-eqb (p .number) 0 z) (ap (λ (x : StepBytes). postBytes (p .number) (x .core) (x .regs) (p .place) (p .stop) (p .completed)) w)
 
 module _ (old core regs : List ℕ) (room : Room old core regs) {words : List ℕ} {n : ℕ} (read : FileRead core old words n) (sheet : List ℕ) (budget : ℕ) (words′ : List ℕ) (a : Posted) (e : Posts words sheet budget (postedOf a words′)) where
   of-bytes : {x : PostBytes} → x ≡ postBackOf (postedOf a words′) core regs → x ≡ postBackOf (postOf (wordsOf (length old) core) sheet budget) core regs
@@ -53,7 +40,7 @@ module _ (old core regs : List ℕ) (room : Room old core regs) {words : List �
       h ∙ ap (λ (p : Posting). postBackOf p core regs) (e .same)
       ∙ ap (λ (ws : List ℕ). postBackOf (postOf ws sheet budget) core regs) (read-words old core regs room read)
 
-  pub post-ran : {core′ regs′ : List ℕ} → a .number ≡ 0 → crossed 0 core′ regs′ ≡ writtenBack 0 words′ (a .regs) core regs
+  pub post-ran : {core′ regs′ : List ℕ} → a .number ≡ 0 → stepBytes 0 core′ regs′ ≡ writtenBack 0 words′ (a .regs) core regs
       → postBytes (a .number) core′ regs′ (a .place) (a .stop) (a .completed) ≡ postBackOf (postOf (wordsOf (length old) core) sheet budget) core regs
   post-ran {core′} {regs′} z h =
       let size : length words′ ≡ length words = e .guarded .posted z .size in
@@ -95,17 +82,17 @@ guard-back core sheet regs p g f = by (eqb (p .number) 0) refl
 
 guards : (core sheet : List ℕ) (budget : ℕ) (regs : List ℕ) → PostGuards core sheet regs (postBytesOf core sheet budget regs)
 unfolding postBytesOf if_then_else_
-guards core sheet budget regs = by (eqb (postNumberOf (length core) (length regs)) 0) refl
+guards core sheet budget regs = by (eqb (lengthsNumberOf (length core) (length regs)) 0) refl
   where
-    by : (b : Bool) → eqb (postNumberOf (length core) (length regs)) 0 ≡ b
-        → PostGuards core sheet regs (if b then postBackOf (postOf (wordsOf (length core / 6) core) sheet budget) core regs else postBytes (postNumberOf (length core) (length regs)) core regs 0 0 0)
+    by : (b : Bool) → eqb (lengthsNumberOf (length core) (length regs)) 0 ≡ b
+        → PostGuards core sheet regs (if b then postBackOf (postOf (wordsOf (length core / 6) core) sheet budget) core regs else postBytes (lengthsNumberOf (length core) (length regs)) core regs 0 0 0)
     by true e =
         guard-back core sheet regs (postOf (wordsOf (length core / 6) core) sheet budget) (guarantees (wordsOf (length core / 6) core) sheet budget)
         (λ z. fit-parts _ _ (post-fit (wordsOf (length core / 6) core) sheet budget z) .1)
     by false e =
         record {
           away = λ n. (refl, refl);
-          posted = λ z. absurd (true≢false (sym (eq-eqb (postNumberOf (length core) (length regs)) 0 z) ∙ e));
+          posted = λ z. absurd (true≢false (sym (eq-eqb (lengthsNumberOf (length core) (length regs)) 0 z) ∙ e));
         }
 
 posts-bytes : (core sheet : List ℕ) (budget : ℕ) (regs : List ℕ) {x : PostBytes} → x ≡ postBytesOf core sheet budget regs → PostsBytes core sheet budget regs x
@@ -113,14 +100,14 @@ posts-bytes core sheet budget regs e = rw e (record { same = refl; guarded = gua
 
 -- ---- the plug
 
-pub post-came : (all core regs : List ℕ) → length all ≡ 32768 → postNumberOf (length core) (length regs) ≡ 0 → (sheet : List ℕ) (budget : ℕ) {x : PostBytes}
+pub post-came : (all core regs : List ℕ) → length all ≡ 32768 → lengthsNumberOf (length core) (length regs) ≡ 0 → (sheet : List ℕ) (budget : ℕ) {x : PostBytes}
     → x ≡ postBackOf (postOf (wordsOf (length (take (length core / 6) all)) core) sheet budget) core regs → PostsBytes core sheet budget regs x
 unfolding postBytesOf if_then_else_
 post-came all core regs full z sheet budget e =
     posts-bytes core sheet budget regs
-    (e ∙ rw (whole-length all core full (number-good (length core) regs z .core), eq-eqb (postNumberOf (length core) (length regs)) 0 z))
+    (e ∙ rw (whole-length all core full (lengths-good (length core) regs z .core), eq-eqb (lengthsNumberOf (length core) (length regs)) 0 z))
 
-pub post-refused : (core sheet : List ℕ) (budget : ℕ) (regs : List ℕ) {n : ℕ} → n ≡ postNumberOf (length core) (length regs) → (n ≡ 0 → ⊥)
+pub post-refused : (core sheet : List ℕ) (budget : ℕ) (regs : List ℕ) {n : ℕ} → n ≡ lengthsNumberOf (length core) (length regs) → (n ≡ 0 → ⊥)
     → PostsBytes core sheet budget regs (postBytes n core regs 0 0 0)
 unfolding postBytesOf if_then_else_
 post-refused core sheet budget regs {n} e z = posts-bytes core sheet budget regs (rw (← e, ne-eqb n 0 z))

@@ -1,10 +1,10 @@
--- A row that fits is in range, and the row of a fit set is of words.
+-- The lengths that a 0 tells, and the row of a fit set is of words.
 use Prim.Native.Nat.{ℕ, _*_, _^_, _<_}
 use mathlib.Core.Path.{_≡_, refl, sym, _∙_, ap}
-use mathlib.Core.Bool.{Bool, true, false, _&&_, false≢true}
+use mathlib.Core.Bool.{Bool, true, false, true≢false}
 use mathlib.Core.List.{List, [], _∷_}
 use native.Mathlib.Omega.{arith}
-use borrow.Author.Tests.{lt-ltb, ltb-true, eqb-true}
+use borrow.Author.Tests.{lt-ltb, eq-eqb, eqb-true}
 use mir.Val.{boolByte}
 use lib.Dec.{ltb, eqb}
 use lib.ListN.{length, getD}
@@ -15,34 +15,12 @@ use Rattle.tape.proofs.Numbers.{whole-read}
 use Rattle.tape.proofs.Words.{words-length, read-yes}
 use Rattle.laws.specs.Fit.{Word, Holds, InRange as RangedSet}
 use Rattle.word.specs.Choices.{if_then_else_}
-use Rattle.cabinet.specs.declared.rows.Taken.the-variants.{Set, Refused}
 use Rattle.cabinet.specs.Lengths.{coreNumberOf}
-use Rattle.cabinet.specs.Rows.{rowOf, setOf, rowFits, rowTakenOf}
+use Rattle.cabinet.specs.Rows.{rowOf, marksFit, lengthsNumberOf, rowNumberOf}
 use Rattle.cabinet.proofs.Counts.{Whole, core-whole}
 use Rattle.word.specs.Field.{oneOf}
-use Rattle.cabinet.specs.ForCode.Rooms.{RowRanged}
 
 -- ---- from a row
-
-both : (a b : Bool) → (a && b) ≡ true → (a ≡ true) × (b ≡ true)
-both true b e = (refl, e)
-both false b e = absurd (false≢true e)
-
-all-on : (a b s f c r l t u : Bool) → (a && b && s && f && c && r && l && t && u) ≡ true → (s ≡ true) × (f ≡ true) × (c ≡ true) × (r ≡ true) × (l ≡ true)
-all-on a b s f c r l t u e =
-    let tests = both (a && b && s && f && c && r && l) t (both (a && b && s && f && c && r && l && t) u e .0) .0 in
-    let with-l = both (a && b && s && f && c && r) l tests in
-    let with-r = both (a && b && s && f && c) r (with-l .0) in
-    let with-c = both (a && b && s && f) c (with-r .0) in
-    let with-f = both (a && b && s) f (with-c .0) in
-    (both (a && b) s (with-f .0) .1, with-f .1, with-c .1, with-r .1, with-l .1)
-
-pub fits-ranged : (row : List ℕ) → length row ≡ 11 → rowFits row ≡ true → RowRanged row
-unfolding rowFits
-fits-ranged row n e =
-    let on =
-    all-on (ltb (getD row 1 0) 2) (ltb (getD row 3 0) 2) (ltb (getD row 4 0) 32768) (ltb (getD row 5 0) 32768) (ltb (getD row 6 0) 32768) (ltb (getD row 7 0) 512) (ltb (getD row 8 0) 4) (ltb (getD row 9 0) 2) (ltb (getD row 10 0) 2) e in
-    record { eleven = n; s = ltb-true (getD row 4 0) 32768 (on .0); f = ltb-true (getD row 5 0) 32768 (on .1); c = ltb-true (getD row 6 0) 32768 (on .2); r = ltb-true (getD row 7 0) 512 (on .3); l = ltb-true (getD row 8 0) 4 (on .4) }
 
 -- Bytes as many as the words that they are read into.
 pub read-exact : (bytes old : List ℕ) {new : List ℕ} {r : ℕ} → 0 < length old → length old < 32769 → length bytes ≡ 6 * length old → FileRead bytes old new r
@@ -54,27 +32,27 @@ pub row-read : (regs old : List ℕ) {row : List ℕ} {r : ℕ} → length old �
 row-read regs old n l f =
     read-exact regs old (omega arith) (omega arith) (omega arith) f ∙ ap (λ (k : ℕ). wordsOf k regs) n
 
-pub row-ranged : (regs row : List ℕ) → row ≡ wordsOf 11 regs → rowFits row ≡ true → RowRanged row
-row-ranged regs row e h = fits-ranged row (ap length e ∙ words-length 11 regs) h
-
--- A set that was taken, beside a core of n bytes.
+-- A set of the right length, beside a core of n bytes.
 pub record Good (n : ℕ) (regs : List ℕ) : Type 0 where
   pub core : Whole n
   pub row : length regs ≡ 66
 
-pub taken-good : (n : ℕ) (regs : List ℕ) {g : Registers} → rowTakenOf n regs ≡ Set g → Good n regs
-unfolding rowTakenOf if_then_else_
-taken-good n regs {g} e = by (eqb (coreNumberOf n) 0) (eqb (length regs) 66) (rowFits (wordsOf 11 regs)) refl refl e
+pub lengths-good : (n : ℕ) (regs : List ℕ) → lengthsNumberOf n (length regs) ≡ 0 → Good n regs
+unfolding lengthsNumberOf if_then_else_
+lengths-good n regs e = by (eqb (coreNumberOf n) 0) (eqb (length regs) 66) refl refl e
   where
-    clash : {A : Type 0} (m : ℕ) → Refused m ≡ Set g → A
-    clash m e = absurd (let z : _≡_ {A = ℕ} 0 1 = cc in omega arith)
+    by : (a b : Bool) → eqb (coreNumberOf n) 0 ≡ a → eqb (length regs) 66 ≡ b → _≡_ {A = ℕ} (if a then (if b then 0 else 3) else coreNumberOf n) 0 → Good n regs
+    by true true p q e = record { core = core-whole n (eqb-true (coreNumberOf n) 0 p); row = eqb-true (length regs) 66 q }
+    by true false p q e = absurd (omega arith)
+    by false b p q e = absurd (true≢false (sym (eq-eqb (coreNumberOf n) 0 e) ∙ p))
 
-    by : (a b c : Bool) → eqb (coreNumberOf n) 0 ≡ a → eqb (length regs) 66 ≡ b
-        → (if a then (if b then (if c then Set (setOf (wordsOf 11 regs)) else Refused 3) else Refused 3) else Refused (coreNumberOf n)) ≡ Set g → Good n regs
-    by true true true p q e = record { core = core-whole n (eqb-true (coreNumberOf n) 0 p); row = eqb-true (length regs) 66 q }
-    by true true false p q e = clash 3 e
-    by true false c p q e = clash 3 e
-    by false b c p q e = clash (coreNumberOf n) e
+pub row-good : (n : ℕ) (regs : List ℕ) → rowNumberOf n regs ≡ 0 → Good n regs
+unfolding rowNumberOf if_then_else_
+row-good n regs e = by (eqb (lengthsNumberOf n (length regs)) 0) (marksFit (wordsOf 11 regs)) refl e
+  where
+    by : (a b : Bool) → eqb (lengthsNumberOf n (length regs)) 0 ≡ a → _≡_ {A = ℕ} (if a then (if b then 0 else 3) else lengthsNumberOf n (length regs)) 0 → Good n regs
+    by true b p e = lengths-good n regs (eqb-true (lengthsNumberOf n (length regs)) 0 p)
+    by false b p e = lengths-good n regs e
 
 -- ---- to a row
 

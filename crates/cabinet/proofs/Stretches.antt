@@ -42,7 +42,7 @@ past-r r cell h = rw (le-ltb r 512 h)
 past-cell : (r cell : ℕ) → 1024 ≤ cell → (ltb r 512 && ltb cell 1024) ≡ false
 past-cell r cell h = second (ltb r 512) (ltb cell 1024) (le-ltb cell 1024 h)
 
-narrow-same : (words : List ℕ) (r cell : ℕ) → handedOf words (narrowOf r) (narrowOf cell) ≡ handedOf words r cell
+narrow-same : (words : List ℕ) (r cell : ℕ) → handedOf words (narrowOf 65535 r) (narrowOf 65535 cell) ≡ handedOf words r cell
 unfolding narrowOf if_then_else_
 narrow-same words r cell = by _ _ refl refl
   where
@@ -66,7 +66,7 @@ pub told : (words : List ℕ) (r cell : ℕ) {n start count : ℕ} → n ≡ han
 unfolding handedOf
 told words r cell n s c = rw (n, s, c)
 
-pub told-read : (old core : List ℕ) (r cell : ℕ) {words : List ℕ} {n a b : ℕ} {x : Handed} → Roomy old core → FileRead core old words n → a ≡ narrowOf r → b ≡ narrowOf cell
+pub told-read : (old core : List ℕ) (r cell : ℕ) {words : List ℕ} {n a b : ℕ} {x : Handed} → Roomy old core → FileRead core old words n → a ≡ narrowOf 65535 r → b ≡ narrowOf 65535 cell
     → x ≡ handedOf words a b → x ≡ handedOf (wordsOf (length old) core) r cell
 told-read old core r cell room read p q e =
     e ∙ rw (p, q, core-read old core room read) (narrow-same (wordsOf (length old) core) r cell)

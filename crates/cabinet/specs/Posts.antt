@@ -9,8 +9,7 @@ use Rattle.word.specs.Choices.{if_then_else_}
 use Rattle.tape.specs.Files.{wordsOf, bytesOf}
 use Rattle.demands.specs.Leaves.{Leaves}
 use Rattle.post.specs.Posting.{Posting, postOf}
-use Rattle.cabinet.specs.Lengths.{coreNumberOf}
-use Rattle.cabinet.specs.Rows.{rowOf}
+use Rattle.cabinet.specs.Rows.{rowOf, lengthsNumberOf}
 
 -- A number, the bytes of the core and those of the register set; the inspector's place; the run's stop and its count.
 pub record PostBytes : Type 0 where
@@ -25,10 +24,6 @@ abbrev pub postBytes : ℕ → List ℕ → List ℕ → ℕ → ℕ → ℕ →
 postBytes n core regs place stop completed =
     record { number = n; core = core; regs = regs; place = place; stop = stop; completed = completed }
 
--- 4 and 1 of a core of n bytes, then 3 of a set that is not 66 bytes.
-unfoldable pub postNumberOf : ℕ → ℕ → ℕ
-postNumberOf n row = if eqb (coreNumberOf n) 0 then (if eqb row 66 then 0 else 3) else coreNumberOf n
-
 -- The bytes say what the run left by 0, and are left as they were by any other number.
 unfoldable pub postBackOf : Posting → List ℕ → List ℕ → PostBytes
 postBackOf p core regs =
@@ -38,8 +33,8 @@ postBackOf p core regs =
 -- A place, a stop and a count that there are not are 0.
 unfoldable pub postBytesOf : List ℕ → List ℕ → ℕ → List ℕ → PostBytes
 postBytesOf core sheet budget regs =
-    if eqb (postNumberOf (length core) (length regs)) 0 then postBackOf (postOf (wordsOf (length core / 6) core) sheet budget) core regs
-    else postBytes (postNumberOf (length core) (length regs)) core regs 0 0 0
+    if eqb (lengthsNumberOf (length core) (length regs)) 0 then postBackOf (postOf (wordsOf (length core / 6) core) sheet budget) core regs
+    else postBytes (lengthsNumberOf (length core) (length regs)) core regs 0 0 0
 
 -- Demand 3 of the words that the bytes say: by 0, those after are what a passed segment leaves of those before; by any other number,
 -- all bytes are as they were.

@@ -1,19 +1,10 @@
 // The hand-out on a core's words, in from bytes: where the words of an array cell stand.
+use crate::narrows::narrow;
 ghost use mathlib.Core.Path.{_≡_};
 ghost use lib.ListN.{length};
 ghost use Rattle.tape.specs.Files.{wordsOf};
-ghost use Rattle.cabinet.specs.ForCode.Rooms.{Roomy, narrowOf};
+ghost use Rattle.cabinet.specs.ForCode.Rooms.{Roomy};
 ghost use Rattle.cabinet.specs.Arrays.{handed, handedOf};
-
-// The hand-out takes 16 bits; a number past them is out of range and stays so.
-fn narrow(n: u64) -> u16
-    ensures { λ r. ⌜ r ≡ narrowOf n ⌝ }
-{
-    if n <= 65535 {
-        return n as u16;
-    }
-    65535
-}
 
 fn tell(words: &[u64], r: u16, cell: u16, start: &mut u64, count: &mut u64) -> u64
     ensures { λ n. ⌜ handed n (now (start .exit)) (now (count .exit)) ≡ handedOf (now (words .entry)) r cell ⌝ }

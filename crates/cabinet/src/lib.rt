@@ -2,6 +2,7 @@
 mod arrays;
 mod inspections;
 mod lengths;
+mod narrows;
 mod posts;
 mod rows;
 mod turns;
@@ -11,14 +12,13 @@ use crate::inspections::inspect_in;
 use crate::lengths::core_number;
 use crate::lengths::load_number;
 use crate::posts::post_in;
-use crate::posts::post_number;
-use crate::rows::Taken;
-use crate::rows::take;
+use crate::rows::lengths_number;
+use crate::rows::row_number;
 use crate::turns::run_in;
 use crate::turns::step_in;
 ghost use mathlib.Core.Path.{_≡_};
 ghost use lib.ListN.{length};
-ghost use Rattle.cabinet.specs.Crossings.{LoadedBytes, crossed, countedBytes, stepBytesOf, runBytesOf};
+ghost use Rattle.cabinet.specs.Crossings.{LoadedBytes, stepBytes, runBytes, stepBytesOf, runBytesOf};
 ghost use Rattle.cabinet.specs.Arrays.{handed, handedBytesOf};
 ghost use Rattle.inspector.specs.Verdicts.{given};
 ghost use Rattle.cabinet.specs.Inspections.{inspectBytesOf};
@@ -46,16 +46,15 @@ pub extern "C" fn fifty_five_load(file: &[u8], core: &mut [u8]) -> u64
 // One syllable. The checks are 4, 1, 3 in this order; then the machine answers.
 #[no_mangle]
 pub extern "C" fn fifty_five_step(core: &mut [u8], regs: &mut [u8]) -> u64
-    ensures { λ r. ⌜ crossed r (now (core .exit)) (now (regs .exit)) ≡ stepBytesOf (now (core .entry)) (now (regs .entry)) ⌝ }
+    ensures { λ r. ⌜ stepBytes r (now (core .exit)) (now (regs .exit)) ≡ stepBytesOf (now (core .entry)) (now (regs .entry)) ⌝ }
 {
     let n = core.len();
-    match take(n, &regs[..]) {
-        Taken::Set(g) => {
-            let mut words = room();
-            step_in(&mut words[..n / 6], core, regs, g)
-        }
-        Taken::Refused(number) => number,
+    let number = row_number(n, &regs[..]);
+    if number == 0 {
+        let mut words = room();
+        return step_in(&mut words[..n / 6], core, regs);
     }
+    number
 }
 
 // Syllables until a stop or until the budget is spent. The checks are 4, 1, 3, 5 in this order; then the machine answers.
@@ -66,16 +65,16 @@ pub extern "C" fn fifty_five_run(
     budget: u64,
     completed: &mut u64,
 ) -> u64
-    ensures { λ r. ⌜ countedBytes r (now (core .exit)) (now (regs .exit)) (now (completed .exit)) ≡ runBytesOf (now (core .entry)) (now (regs .entry)) budget (now (completed .entry)) ⌝ }
+    ensures { λ r. ⌜ runBytes r (now (core .exit)) (now (regs .exit)) (now (completed .exit)) ≡ runBytesOf (now (core .entry)) (now (regs .entry)) budget ⌝ }
 {
     let n = core.len();
-    match take(n, &regs[..]) {
-        Taken::Set(g) => {
-            let mut words = room();
-            run_in(&mut words[..n / 6], core, regs, g, budget, completed)
-        }
-        Taken::Refused(number) => number,
+    let number = row_number(n, &regs[..]);
+    if number == 0 {
+        let mut words = room();
+        return run_in(&mut words[..n / 6], core, regs, budget, completed);
     }
+    *completed = 0;
+    number
 }
 
 // Where the words of an array cell stand: the first of them and how many. The checks are 4, 1, 3, 36 in this order, each with 0 and 0.
@@ -129,7 +128,7 @@ pub extern "C" fn fifty_five_post(
     ensures { λ r. ⌜ PostsBytes (now (core .entry)) (now (sheet .entry)) budget (now (regs .entry)) (postBytes r (now (core .exit)) (now (regs .exit)) (now (place .exit)) (now (stop .exit)) (now (completed .exit))) ⌝ }
 {
     let n = core.len();
-    let number = post_number(n, regs.len());
+    let number = lengths_number(n, regs.len());
     if number == 0 {
         let mut words = room();
         return post_in(

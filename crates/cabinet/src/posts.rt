@@ -1,26 +1,11 @@
 // A posting on a core's words, in from bytes and out to bytes.
-use crate::lengths::core_number;
 use crate::turns::hand_back;
 ghost use mathlib.Core.Path.{_≡_};
 ghost use lib.ListN.{length};
 ghost use Rattle.tape.specs.Files.{wordsOf};
 ghost use Rattle.post.specs.Posting.{postOf};
 ghost use Rattle.cabinet.specs.ForCode.Rooms.{Room};
-ghost use Rattle.cabinet.specs.Posts.{postBytes, postNumberOf, postBackOf};
-
-// 4, 1, 3 or 0 of the bytes of a core and of a register set.
-pub fn post_number(n: usize, row: usize) -> u64
-    ensures { λ r. ⌜ r ≡ postNumberOf n row ⌝ }
-{
-    let number = core_number(n);
-    if number == 0 {
-        if row == 66 {
-            return 0;
-        }
-        return 3;
-    }
-    number
-}
+ghost use Rattle.cabinet.specs.Posts.{postBytes, postBackOf};
 
 // Posts the segment; a number that is not 0 leaves the bytes of the core and the set as they were.
 pub fn post_in(

@@ -1,69 +1,86 @@
 // A register set crosses as a row of eleven words: A, a_full, B, b_full, S, F, C, R, L, SALF, MSFF.
 use crate::lengths::core_number;
+use crate::narrows::narrow;
+use crate::narrows::narrow_byte;
 use machine::Registers;
 ghost use mathlib.Core.Path.{_≡_};
 ghost use lib.ListN.{length};
-ghost use Rattle.cabinet.specs.Rows.{rowFits, setOf, rowOf, rowTakenOf};
+ghost use Rattle.cabinet.specs.Rows.{marksFit, lengthsNumberOf, rowNumberOf, setOf, rowOf};
 ghost use Rattle.word.specs.Field.{oneOf};
-ghost use Rattle.cabinet.specs.ForCode.Rooms.{RowRanged};
+ghost use Rattle.tape.specs.Files.{wordsOf};
+ghost use Rattle.cabinet.specs.ForCode.Rooms.{narrowSet};
 
-// The registers of a set that was taken, or why it was not.
-pub enum Taken {
-    Set(Registers),
-    Refused(u64),
+// 4, 1, 3 or 0 of the bytes of a core and of a register set.
+pub fn lengths_number(n: usize, row: usize) -> u64
+    ensures { λ r. ⌜ r ≡ lengthsNumberOf n row ⌝ }
+{
+    let number = core_number(n);
+    if number == 0 {
+        if row == 66 {
+            return 0;
+        }
+        return 3;
+    }
+    number
 }
 
-// Every field is in its range, and a mark is 0 or 1. That an empty register holds 0 is left to the machine.
-fn row_fits(row: &[u64]) -> bool
-    requires { ⌜ length (now row) ≡ 11 ⌝ }
-    ensures { λ r. ⌜ r ≡ rowFits (now (row .entry)) ⌝ }
+fn row_in(regs: &[u8]) -> [u64; 11]
+    requires { ⌜ length (now regs) ≡ 66 ⌝ }
+    ensures { λ r. ⌜ r ≡ wordsOf 11 (now (regs .entry)) ⌝ }
 {
-    (row[1] < 2)
-        & (row[3] < 2)
-        & (row[4] < 32768)
-        & (row[5] < 32768)
-        & (row[6] < 32768)
-        & (row[7] < 512)
-        & (row[8] < 4)
-        & (row[9] < 2)
-        & (row[10] < 2)
+    let mut row = [0u64; 11];
+    tape::read_file(regs, &mut row);
+    row
+}
+
+fn marks_fit(row: &[u64]) -> bool
+    requires { ⌜ length (now row) ≡ 11 ⌝ }
+    ensures { λ r. ⌜ r ≡ marksFit (now (row .entry)) ⌝ }
+{
+    (row[1] < 2) & (row[3] < 2) & (row[9] < 2) & (row[10] < 2)
+}
+
+// The same, with the marks of the set.
+pub fn row_number(n: usize, regs: &[u8]) -> u64
+    ensures { λ r. ⌜ r ≡ rowNumberOf n (now (regs .entry)) ⌝ }
+{
+    let number = lengths_number(n, regs.len());
+    if number == 0 {
+        let row = row_in(regs);
+        if marks_fit(&row) {
+            return 0;
+        }
+        return 3;
+    }
+    number
 }
 
 fn set_of(row: &[u64]) -> Registers
-    requires { ⌜ RowRanged (now row) ⌝ }
-    ensures { λ r. ⌜ r ≡ setOf (now (row .entry)) ⌝ }
+    requires { ⌜ length (now row) ≡ 11 ⌝ }
+    ensures { λ r. ⌜ r ≡ narrowSet (setOf (now (row .entry))) ⌝ }
 {
     Registers {
         a: row[0],
         afull: row[1] == 1,
         b: row[2],
         bfull: row[3] == 1,
-        s: row[4] as u16,
-        f: row[5] as u16,
-        c: row[6] as u16,
-        r: row[7] as u16,
-        l: row[8] as u8,
+        s: narrow(row[4]),
+        f: narrow(row[5]),
+        c: narrow(row[6]),
+        r: narrow(row[7]),
+        l: narrow_byte(row[8]),
         salf: row[9] == 1,
         msff: row[10] == 1,
     }
 }
 
-// The set of 66 bytes, beside a core of `n` bytes: 4, 1 and 3 are refused, in this order.
-pub fn take(n: usize, regs: &[u8]) -> Taken
-    ensures { λ r. ⌜ r ≡ rowTakenOf n (now (regs .entry)) ⌝ }
+// The set of 66 bytes.
+pub fn set_in(regs: &[u8]) -> Registers
+    requires { ⌜ length (now regs) ≡ 66 ⌝ }
+    ensures { λ r. ⌜ r ≡ narrowSet (setOf (wordsOf 11 (now (regs .entry)))) ⌝ }
 {
-    let number = core_number(n);
-    if number == 0 {
-        if regs.len() == 66 {
-            let mut row = [0u64; 11];
-            tape::read_file(regs, &mut row);
-            if row_fits(&row) {
-                return Taken::Set(set_of(&row));
-            }
-        }
-        return Taken::Refused(3);
-    }
-    Taken::Refused(number)
+    let row = row_in(regs);
+    set_of(&row)
 }
 
 fn mark(on: bool) -> u64

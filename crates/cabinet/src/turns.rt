@@ -1,13 +1,15 @@
 // The machine's step and run on a core's words, in from bytes and out to bytes.
 use crate::rows::row_of;
+use crate::rows::set_in;
 use machine::Registers;
 ghost use mathlib.Core.Path.{_≡_};
 ghost use lib.ListN.{length};
 ghost use Rattle.tape.specs.Files.{wordsOf};
 ghost use Rattle.machine.specs.Steps.{stepOf};
 ghost use Rattle.machine.specs.Runs.{runOf};
-ghost use Rattle.cabinet.specs.Crossings.{refuses, crossed, countedBytes, stepBackOf, runBackOf};
-ghost use Rattle.cabinet.specs.ForCode.Rooms.{Room, countBack, writtenBack};
+ghost use Rattle.cabinet.specs.Rows.{setOf};
+ghost use Rattle.cabinet.specs.Crossings.{refuses, stepBytes, runBytes, stepBackOf, runBackOf};
+ghost use Rattle.cabinet.specs.ForCode.Rooms.{Room, writtenBack};
 
 // The numbers 1 to 5: nothing has been done.
 fn refused(number: u64) -> bool
@@ -18,7 +20,7 @@ fn refused(number: u64) -> bool
 
 // Writes the core and the set over their bytes, or nothing where the number refuses.
 pub fn hand_back(words: &[u64], number: u64, g: Registers, core: &mut [u8], regs: &mut [u8])
-    ensures { λ _. ⌜ crossed number (now (core .exit)) (now (regs .exit)) ≡ writtenBack number (now (words .entry)) g (now (core .entry)) (now (regs .entry)) ⌝ }
+    ensures { λ _. ⌜ stepBytes number (now (core .exit)) (now (regs .exit)) ≡ writtenBack number (now (words .entry)) g (now (core .entry)) (now (regs .entry)) ⌝ }
 {
     if refused(number) {
         return;
@@ -28,39 +30,31 @@ pub fn hand_back(words: &[u64], number: u64, g: Registers, core: &mut [u8], regs
     tape::write_file(&row, regs);
 }
 
-pub fn step_in(words: &mut [u64], core: &mut [u8], regs: &mut [u8], g: Registers) -> u64
+pub fn step_in(words: &mut [u64], core: &mut [u8], regs: &mut [u8]) -> u64
     requires { ⌜ Room (now words) (now core) (now regs) ⌝ }
-    ensures { λ r. ⌜ crossed r (now (core .exit)) (now (regs .exit)) ≡ stepBackOf (stepOf (wordsOf (length (now (words .entry))) (now (core .entry))) g) (now (core .entry)) (now (regs .entry)) ⌝ }
+    ensures { λ r. ⌜ stepBytes r (now (core .exit)) (now (regs .exit)) ≡ stepBackOf (stepOf (wordsOf (length (now (words .entry))) (now (core .entry))) (setOf (wordsOf 11 (now (regs .entry))))) (now (core .entry)) (now (regs .entry)) ⌝ }
 {
     tape::read_file(&core[..], words);
+    let g = set_in(&regs[..]);
     let a = machine::step(words, g);
     hand_back(&words[..], a.number, a.regs, core, regs);
     a.number
-}
-
-fn count(completed: &mut u64, number: u64, n: u64)
-    ensures { λ _. ⌜ now (completed .exit) ≡ countBack number n (now (completed .entry)) ⌝ }
-{
-    if refused(number) {
-        return;
-    }
-    *completed = n;
 }
 
 pub fn run_in(
     words: &mut [u64],
     core: &mut [u8],
     regs: &mut [u8],
-    g: Registers,
     budget: u64,
     completed: &mut u64,
 ) -> u64
     requires { ⌜ Room (now words) (now core) (now regs) ⌝ }
-    ensures { λ r. ⌜ countedBytes r (now (core .exit)) (now (regs .exit)) (now (completed .exit)) ≡ runBackOf (runOf (wordsOf (length (now (words .entry))) (now (core .entry))) g budget) (now (core .entry)) (now (regs .entry)) (now (completed .entry)) ⌝ }
+    ensures { λ r. ⌜ runBytes r (now (core .exit)) (now (regs .exit)) (now (completed .exit)) ≡ runBackOf (runOf (wordsOf (length (now (words .entry))) (now (core .entry))) (setOf (wordsOf 11 (now (regs .entry)))) budget) (now (core .entry)) (now (regs .entry)) ⌝ }
 {
     tape::read_file(&core[..], words);
+    let g = set_in(&regs[..]);
     let a = machine::run(words, g, budget);
+    *completed = a.completed;
     hand_back(&words[..], a.stop, a.regs, core, regs);
-    count(completed, a.stop, a.completed);
     a.stop
 }

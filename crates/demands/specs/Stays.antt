@@ -9,15 +9,14 @@ use Rattle.word.specs.Field.{bit}
 use Rattle.word.specs.Layout.{flagOf, presenceOf, sizeOf, addressOf}
 use Rattle.machine.specs.declared.outcome.Cause.{Cause}
 use Rattle.machine.specs.declared.outcome.Cause.the-variants.{Address, Overflow, Presence, Flag, Index, Unbuilt, Unwhole, ZeroDivisor}
-use Rattle.machine.specs.States.{State}
+use Rattle.machine.specs.States.{State, stateOf, noRegisters, setS, setCL, setR}
 use Rattle.machine.specs.Steps.{Ended, next, communicated, stopped, executeOf, refusalOf}
 use Rattle.sheet.specs.Sheets.{codeOf, codeWordsOf, sOf, roomOf, rOf, cellOf}
 use Rattle.word.specs.Addresses.{cellAddress}
 
 -- "Start: C first code word, L, F 0, A, B empty, SALF, MSFF off", S and R as the sheet has them.
 abbrev pub startOf : List ℕ → List ℕ → State
-startOf core sheet =
-    record { core = core; regs = record { a = 0; afull = false; b = 0; bfull = false; s = sOf sheet; f = 0; c = codeOf sheet; r = rOf sheet; l = 0; salf = false; msff = false } }
+startOf core sheet = stateOf core (setS (setR (setCL noRegisters (codeOf sheet) 0) (rOf sheet)) (sOf sheet))
 
 -- The state after n completed steps with no stop so far.
 abbrev pub Reaches : ℕ → State → State → Type 0

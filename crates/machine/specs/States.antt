@@ -13,6 +13,10 @@ pub record State : Type 0 where
 abbrev pub stateOf : List ℕ → Registers → State
 stateOf core g = record { core = core; regs = g }
 
+-- All registers 0, A and B empty, flags off.
+abbrev pub noRegisters : Registers
+noRegisters = record { a = 0; afull = false; b = 0; bfull = false; s = 0; f = 0; c = 0; r = 0; l = 0; salf = false; msff = false }
+
 abbrev pub setA : Registers → Bool → ℕ → Registers
 setA g full x = record { a = x; afull = full; b = g .b; bfull = g .bfull; s = g .s; f = g .f; c = g .c; r = g .r; l = g .l; salf = g .salf; msff = g .msff }
 

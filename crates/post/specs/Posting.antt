@@ -1,14 +1,13 @@
 -- Posting: a segment is inspected and, where it passed, run from the sheet's start.
 use Prim.Native.Nat.{ℕ}
-use mathlib.Core.Bool.{Bool, true, false}
 use mathlib.Core.Path.{_≡_}
 use mathlib.Core.Logic.{_≢_}
 use mathlib.Core.List.{List}
 use lib.Dec.{eqb, leb}
+use Rattle.word.specs.Choices.{if_then_else_}
 use Rattle.machine.specs.declared.outcome.Registers.{Registers}
-use Rattle.machine.specs.States.{State}
+use Rattle.machine.specs.States.{State, noRegisters}
 use Rattle.machine.specs.Runs.{Run, runFrom}
-use Rattle.inspector.specs.declared.verdict.Verdict.{Verdict}
 use Rattle.inspector.specs.Verdicts.{verdictOf}
 use Rattle.demands.specs.Stays.{startOf, Reaches, Stays}
 use Rattle.demands.specs.Leaves.{Leaves}
@@ -23,24 +22,17 @@ pub record Posting : Type 0 where
   pub core : List ℕ
   pub regs : Registers
 
--- Turned away: the core as it was, the registers those of the sheet's start, no syllable completed.
-abbrev pub turnedAway : ℕ → ℕ → List ℕ → List ℕ → Posting
-turnedAway number place core sheet =
-    record { number = number; place = place; stop = 0; completed = 0; core = core; regs = startOf core sheet .regs }
+-- Turned away: the core as it was, no syllable completed, all registers 0.
+abbrev pub turnedAway : ℕ → ℕ → List ℕ → Posting
+turnedAway number place core = record { number = number; place = place; stop = 0; completed = 0; core = core; regs = noRegisters }
 
 abbrev pub ran : Run → Posting
 ran r = record { number = 0; place = 0; stop = r .stop; completed = r .completed; core = r .core; regs = r .regs }
 
-abbrev pub within : Bool → List ℕ → List ℕ → ℕ → Posting
-within true core sheet budget = ran (runFrom budget (startOf core sheet))
-within false core sheet budget = turnedAway 5 0 core sheet
-
-abbrev pub judged : Bool → Verdict → List ℕ → List ℕ → ℕ → Posting
-judged true v core sheet budget = within (leb budget 1000000) core sheet budget
-judged false v core sheet budget = turnedAway (v .number) (v .place) core sheet
-
 unfoldable pub postOf : List ℕ → List ℕ → ℕ → Posting
-postOf core sheet budget = judged (eqb (verdictOf core sheet .number) 0) (verdictOf core sheet) core sheet budget
+postOf core sheet budget =
+    if eqb (verdictOf core sheet .number) 0 then (if leb budget 1000000 then ran (runFrom budget (startOf core sheet)) else turnedAway 5 0 core)
+    else turnedAway (verdictOf core sheet .number) (verdictOf core sheet .place) core
 
 -- A posting's answer with the core that it left.
 abbrev pub postedOf : Posted → List ℕ → Posting

@@ -4,8 +4,9 @@ ghost use mathlib.Core.Path.{_≡_};
 ghost use mathlib.Core.List.{List};
 ghost use Prim.Native.Nat.{ℕ, _+_, _*_, _<_};
 ghost use lib.ListN.{getD};
+ghost use Rattle.machine.specs.States.{noRegisters};
 ghost use Rattle.demands.specs.Stays.{startOf};
-ghost use Rattle.post.specs.Posting.{postedOf, Posts};
+ghost use Rattle.post.specs.Posting.{turnedAway, postedOf, Posts};
 
 // The number and place of the inspector, or 5; the stop, the syllables completed and the registers of the run.
 pub struct Posted {
@@ -33,25 +34,45 @@ fn pair(sheet: &[u8], high: usize, low: usize) -> u16
     256 * byte(sheet, high) + byte(sheet, low)
 }
 
-// "Start: C first code word, L, F 0, A, B empty, SALF, MSFF off", S and R as the sheet has them.
-fn start(sheet: &[u8]) -> Registers
-    ensures { λ r. ⌜ ((core : List ℕ) → r ≡ startOf core (now (sheet .entry)) .regs) ⌝ }
+fn no_registers() -> Registers
+    ensures { λ r. ⌜ r ≡ noRegisters ⌝ }
 {
-    let c = pair(sheet, 2, 3);
-    let s = pair(sheet, 8, 9);
-    let r = pair(sheet, 14, 15);
     Registers {
         a: 0,
         afull: false,
         b: 0,
         bfull: false,
-        s,
+        s: 0,
         f: 0,
-        c,
-        r,
+        c: 0,
+        r: 0,
         l: 0,
         salf: false,
         msff: false,
+    }
+}
+
+// "Start: C first code word, L, F 0, A, B empty, SALF, MSFF off", S and R as the sheet has them.
+fn start(sheet: &[u8]) -> Registers
+    ensures { λ r. ⌜ ((core : List ℕ) → r ≡ startOf core (now (sheet .entry)) .regs) ⌝ }
+{
+    let mut g = no_registers();
+    g.c = pair(sheet, 2, 3);
+    g.s = pair(sheet, 8, 9);
+    g.r = pair(sheet, 14, 15);
+    g
+}
+
+fn turned_away(number: u64, place: u64) -> Posted
+    ensures { λ r. ⌜ ((core : List ℕ) → postedOf r core ≡ turnedAway number place core) ⌝ }
+{
+    let regs = no_registers();
+    Posted {
+        number,
+        place,
+        stop: 0,
+        completed: 0,
+        regs,
     }
 }
 
@@ -60,9 +81,9 @@ pub fn post(core: &mut [u64], sheet: &[u8], budget: u64) -> Posted
     ensures { λ r. ⌜ Posts (now (core .entry)) (now (sheet .entry)) budget (postedOf r (now (core .exit))) ⌝ }
 {
     let v = inspector::inspect(&core[..], sheet);
-    let g = start(sheet);
     if v.number == 0 {
         if budget <= 1000000 {
+            let g = start(sheet);
             let r = machine::run(core, g, budget);
             let regs = r.regs;
             return Posted {
@@ -73,19 +94,7 @@ pub fn post(core: &mut [u64], sheet: &[u8], budget: u64) -> Posted
                 regs,
             };
         }
-        return Posted {
-            number: 5,
-            place: 0,
-            stop: 0,
-            completed: 0,
-            regs: g,
-        };
+        return turned_away(5, 0);
     }
-    Posted {
-        number: v.number,
-        place: v.place,
-        stop: 0,
-        completed: 0,
-        regs: g,
-    }
+    turned_away(v.number, v.place)
 }

@@ -1,30 +1,24 @@
--- A set that was taken says that the words fit the room; the rest is step_in.
-use Rattle.cabinet.proofs.Backs.{words-most, part-length, part-room, step-came, step-refused}
+use Rattle.cabinet.proofs.Backs.{whole-most, whole-length, whole-room, step-came, step-refused}
+use Rattle.cabinet.proofs.Sets.{row-good}
 use mathlib.Core.Path.{sym, _∙_}
 use borrow.Author.Needs.{needs}
 use Rattle.cabinet.proofs.fifty_five_step.Statement.{statement}
 use Rattle.cabinet.proofs.fifty_five_step.Tie as tie
 
-take-requires : tie.Need-take-requires
-take-requires c κs = search needs
-
-enum-known-g : tie.Need-enum-known-g
-enum-known-g c = search needs
+row-number-requires : tie.Need-row-number-requires
+row-number-requires c κs = search needs
 
 room-requires : tie.Need-room-requires
 room-requires c κs = search needs
 
 array-borrow-prefix-words : tie.Need-array-borrow-prefix-words
-array-borrow-prefix-words c = words-most (c .room .result) (c .before .before .before .before .before .before .before .before .args .core .now) (c .before .before .before .before .before .before .before .before .args .regs .now) (c .room .ensures) (sym (c .before .before .before .before .take .ensures) ∙ c .before .before .g .given .1)
+array-borrow-prefix-words c = whole-most (c .room .result) (c .before .before .before .before .before .before .args .core .now) (c .room .ensures) (row-good _ (c .before .before .before .before .before .before .args .regs .now) (sym (c .before .before .row-number .ensures) ∙ c .before .if1 .taken) .core)
 
 slice-aggregate-step-in : tie.Need-slice-aggregate-step-in
-slice-aggregate-step-in c = sym (part-length (c .before .room .result) (c .before .before .before .before .before .before .before .before .before .args .core .now) (c .before .before .before .before .before .before .before .before .before .args .regs .now) (c .before .room .ensures) (sym (c .before .before .before .before .before .take .ensures) ∙ c .before .before .before .g .given .1))
+slice-aggregate-step-in c = sym (whole-length (c .before .room .result) (c .before .before .before .before .before .before .before .args .core .now) (c .before .room .ensures) (row-good _ (c .before .before .before .before .before .before .before .args .regs .now) (sym (c .before .before .before .row-number .ensures) ∙ c .before .before .if1 .taken) .core))
 
 step-in-requires : tie.Need-step-in-requires
-step-in-requires c κs = part-room _ _ _ (c .before .before .before .room .ensures) (sym (c .before .before .before .before .before .before .before .take .ensures) ∙ c .before .before .before .before .before .g .given .1)
-
-enum-known-number : tie.Need-enum-known-number
-enum-known-number c = search needs
+step-in-requires c κs = whole-room _ _ (c .before .before .before .room .ensures) (row-good _ (c .before .before .before .before .before .before .before .before .before .args .regs .now) (sym (c .before .before .before .before .before .row-number .ensures) ∙ c .before .before .before .before .if1 .taken) .core) _ (row-good _ (c .before .before .before .before .before .before .before .before .before .args .regs .now) (sym (c .before .before .before .before .before .row-number .ensures) ∙ c .before .before .before .before .if1 .taken) .row)
 
 same-length : tie.Need-same-length
 same-length c = search needs
@@ -33,25 +27,23 @@ same-length-2 : tie.Need-same-length-2
 same-length-2 c = search needs
 
 returns : tie.Need-returns
-returns c = step-came _ _ _ (c .before .before .before .before .before .before .before .before .before .room .ensures) (sym (c .before .before .before .before .before .before .before .before .before .before .before .before .before .take .ensures) ∙ c .before .before .before .before .before .before .before .before .before .before .before .g .given .1) (c .before .before .before .before .before .step-in .ensures)
+returns c = step-came _ _ _ (c .before .before .before .before .before .before .before .before .before .room .ensures) (sym (c .before .before .before .before .before .before .before .before .before .before .before .row-number .ensures) ∙ c .before .before .before .before .before .before .before .before .before .before .if1 .taken) (c .before .before .before .before .before .step-in .ensures)
 
 same-length-3 : tie.Need-same-length-3
 same-length-3 c = search needs
 
 returns-2 : tie.Need-returns-2
-returns-2 c = step-refused _ _ (sym (c .before .before .before .take .ensures) ∙ c .before .number .given .1)
+returns-2 c = step-refused _ _ (c .before .row-number .ensures) (c .if1 .left)
 
 pub fifty-five-step-spec : {M : Type 1} → statement M
 fifty-five-step-spec =
     tie.close
     (tie.spec
-    take-requires
-    enum-known-g
+    row-number-requires
     room-requires
     array-borrow-prefix-words
     slice-aggregate-step-in
     step-in-requires
-    enum-known-number
     same-length
     same-length-2
     returns

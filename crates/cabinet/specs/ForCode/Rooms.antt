@@ -3,11 +3,12 @@ use Prim.Native.Nat.{ℕ, _*_, _<_, _≤_}
 use mathlib.Core.Path.{_≡_}
 use mathlib.Core.List.{List}
 use lib.Dec.{leb}
-use lib.ListN.{length, getD}
+use lib.ListN.{length}
 use Rattle.word.specs.Choices.{if_then_else_}
 use Rattle.machine.specs.declared.outcome.Registers.{Registers}
+use Rattle.machine.specs.States.{setS, setF, setCL, setR}
 use Rattle.tape.specs.Files.{writeFileOf}
-use Rattle.cabinet.specs.Crossings.{Crossed, crossed, refuses}
+use Rattle.cabinet.specs.Crossings.{StepBytes, stepBytes, refuses}
 use Rattle.cabinet.specs.Rows.{rowOf}
 
 -- Room for exactly the words that the bytes of a core say.
@@ -24,22 +25,15 @@ pub record Room (words core regs : List ℕ) : Type 0 where
   pub row : length regs ≡ 66
 
 -- What is left by a number, words and a set: tape's writing, where the number does not refuse.
-unfoldable pub writtenBack : ℕ → List ℕ → Registers → List ℕ → List ℕ → Crossed
+unfoldable pub writtenBack : ℕ → List ℕ → Registers → List ℕ → List ℕ → StepBytes
 writtenBack n words g core regs =
-    if refuses n then crossed n core regs else crossed n (writeFileOf words core) (writeFileOf (rowOf g) regs)
+    if refuses n then stepBytes n core regs else stepBytes n (writeFileOf words core) (writeFileOf (rowOf g) regs)
 
-unfoldable pub countBack : ℕ → ℕ → ℕ → ℕ
-countBack n completed old = if refuses n then old else completed
+-- A number past the most that a type holds is out of every range, as that most is.
+unfoldable pub narrowOf : ℕ → ℕ → ℕ
+narrowOf most n = if leb n most then n else most
 
--- The same, where the row's numbers become registers.
-pub record RowRanged (row : List ℕ) : Type 0 where
-  pub eleven : length row ≡ 11
-  pub s : getD row 4 0 < 32768
-  pub f : getD row 5 0 < 32768
-  pub c : getD row 6 0 < 32768
-  pub r : getD row 7 0 < 512
-  pub l : getD row 8 0 < 4
-
--- A number that 16 bits don't hold is out of every range, as the largest that they hold is.
-unfoldable pub narrowOf : ℕ → ℕ
-narrowOf n = if leb n 65535 then n else 65535
+-- A set of any numbers, as 16 bits hold S, F, C and R and 8 bits L.
+unfoldable pub narrowSet : Registers → Registers
+narrowSet g =
+    setS (setF (setCL (setR g (narrowOf 65535 (g .r))) (narrowOf 65535 (g .c)) (narrowOf 255 (g .l))) (narrowOf 65535 (g .f))) (narrowOf 65535 (g .s))

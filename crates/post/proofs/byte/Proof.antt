@@ -4,22 +4,16 @@ use native.Mathlib.Omega.{arith}
 use borrow.Author.Needs.{needs}
 use Rattle.post.proofs.byte.Statement.{statement}
 use Rattle.post.proofs.byte.Tie as tie
-use Rattle.post.proofs.byte.Reads as reads
-use Rattle.post.proofs.byte.Lts as lts
 
--- src/lib.rt:24:16
 shared-slice-read-result : tie.Need-shared-slice-read-result
 shared-slice-read-result c = search needs
 
--- src/lib.rt:24:16
 cast-result : tie.Need-cast-result
 cast-result c = omega (arith, c .shared-slice-known .given (c .before .before .args .at))
 
--- src/lib.rt:24:9
 returns : tie.Need-returns
 returns c = (refl, omega (arith, c .shared-slice-known .given (c .before .before .args .at)))
 
--- src/lib.rt:20:1
 returns-2 : tie.Need-returns-2
 returns-2 c = (sym (List·getD-eq-default (c .before .args .sheet .now) 0 {n = c .before .args .at} (c .if1 .left)), search needs)
 

@@ -4,8 +4,8 @@ use mathlib.Core.Path.{refl}
 use borrow.Author.Tests.{le-leb, lt-leb}
 use Rattle.machine.proofs.Calculus.{isYes, isNo}
 use borrow.Author.Needs.{needs}
-use Rattle.cabinet.proofs.arrays.narrow.Statement.{statement}
-use Rattle.cabinet.proofs.arrays.narrow.Tie as tie
+use Rattle.cabinet.proofs.narrows.narrow.Statement.{statement}
+use Rattle.cabinet.proofs.narrows.narrow.Tie as tie
 
 cast-result : tie.Need-cast-result
 cast-result c = search needs
