@@ -5,7 +5,7 @@ use mathlib.Core.List.{List, [], _∷_}
 use lib.Dec.{eqb}
 use lib.ListN.{getD, set, replicate}
 use Rattle.machine.specs.declared.outcome.Registers.{Registers}
-use Rattle.machine.specs.States.{State, fillA, fillB, withS, store}
+use Rattle.machine.specs.States.{State, stateOf, noRegisters, setS, setR, fillA, fillB, withS, store}
 use Rattle.machine.specs.Steps.{Stepped, stepOf}
 use Rattle.word.specs.Layout.{dataOf}
 
@@ -19,7 +19,7 @@ pub record Trial : Type 0 where
 
 -- Core of 128 words of 0, R = 1, S = 31, at word 0 syllable 0, all else 0, empty or off.
 abbrev pub bare : State
-bare = record { core = replicate 128 0; regs = record { a = 0; afull = false; b = 0; bfull = false; s = 31; f = 0; c = 0; r = 1; l = 0; salf = false; msff = false } }
+bare = stateOf (replicate 128 0) (setR (setS noRegisters 31) 1)
 
 -- The same with four syllables in word 0.
 abbrev pub coded : ℕ → ℕ → ℕ → ℕ → State

@@ -1,11 +1,11 @@
 -- "The program `runone` reads a core file on standard input, fills up to 4,096 words with 0 .."
 use Prim.Native.Nat.{ℕ, _-_, _/_}
 use mathlib.Core.Path.{_≡_}
-use mathlib.Core.Bool.{true, false}
 use mathlib.Core.List.{List, _++_}
 use lib.Dec.{eqb, leb}
 use lib.ListN.{getD, drop, replicate}
 use Rattle.machine.specs.declared.outcome.Registers.{Registers}
+use Rattle.machine.specs.States.{noRegisters, setS, setR}
 use Rattle.machine.specs.Runs.{Run, runOf}
 use Rattle.tape.specs.Files.{wordsOf, coreNumberOf, readNumberOf}
 use Rattle.trial.specs.declared.trials.Sum.{Sum}
@@ -26,7 +26,7 @@ filledOf bytes n = wordsOf n bytes ++ replicate (4096 - n) 0
 
 -- "starts at C=0, R=1, S=31, the rest 0, empty or off"
 abbrev pub start : Registers
-start = record { a = 0; afull = false; b = 0; bfull = false; s = 31; f = 0; c = 0; r = 1; l = 0; salf = false; msff = false }
+start = setR (setS noRegisters 31) 1
 
 -- What is told of a run: the stop, the syllables completed, C, L, S and the word at 64 + 9.
 abbrev pub summaryOf : Run → Sum

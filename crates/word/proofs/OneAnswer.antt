@@ -13,6 +13,7 @@ use Rattle.word.specs.declared.digits.Reading.{Reading}
 use Rattle.word.specs.declared.digits.Reading.the-variants.{Number as Read, Refused}
 use Rattle.word.proofs.Sole.{sole, sole-said}
 use Rattle.word.proofs.addresses.sum.Reads as sum
+use Rattle.word.proofs.arrays.array_in.Reads as array-in
 use Rattle.word.proofs.cores.length_fits.Reads as length-fits
 use Rattle.word.proofs.cores.words_fit.Reads as words-fit
 use Rattle.word.proofs.digits.from_digits.Reads as from-digits
@@ -76,6 +77,9 @@ read-back Refused = refl
 
 pub sum-sole : (κs : _) (a : _) (r r′ : _) (e e′ : _) → sum.Learnt κs a r e → sum.Learnt κs a r′ e′ → r ≡ r′
 sum-sole κs a r r′ e e′ p q = sole p q
+
+pub array-in-sole : (κs : _) (a : _) (r r′ : _) (e e′ : _) → array-in.Learnt κs a r e → array-in.Learnt κs a r′ e′ → r ≡ r′
+array-in-sole κs a r r′ e e′ p q = sole p q
 
 pub length-fits-sole : (κs : _) (a : _) (r r′ : _) (e e′ : _) → length-fits.Learnt κs a r e → length-fits.Learnt κs a r′ e′ → r ≡ r′
 length-fits-sole κs a r r′ e e′ p q = sole p q

@@ -5,7 +5,3 @@ infixr 10 if_then_else_
 unfoldable pub if_then_else_ : {A : Type 0} → Bool → A → A → A
 if true then x else y = x
 if false then x else y = y
-
-abbrev pub choose : {A : Type 0} → Bool → A → A → A
-choose true x y = x
-choose false x y = y

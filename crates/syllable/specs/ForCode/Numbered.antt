@@ -8,7 +8,7 @@ use Rattle.syllable.specs.declared.Operator.the-variants.{NotBuilt}
 use Rattle.syllable.specs.declared.Syllable.{Syllable}
 use Rattle.syllable.specs.declared.Syllable.the-variants.{Litc, Opdc, Desc, Operator as Operates}
 use Rattle.syllable.specs.Codes.{listed}
-use Rattle.word.specs.Choices.{choose}
+use mathlib.Core.Bool.{true, false}
 
 -- the operator at a place, counted from 0; past the end, one that is not built
 abbrev pub operatorFrom : List Operator → ℕ → ℕ → Operator
@@ -24,4 +24,5 @@ operatorNumbered (suc n) k = operatorFrom listed n k
 -- the syllable with an operator number and a number k
 abbrev pub syllableNumbered : ℕ → ℕ → Syllable
 syllableNumbered n k =
-    choose (eqb n 37) (Litc k) (choose (eqb n 38) (Opdc k) (choose (eqb n 39) (Desc k) (Operates (operatorNumbered n k))))
+    elim (eqb n 37)
+    [ true ↦ Litc k | false ↦ elim (eqb n 38) [ true ↦ Opdc k | false ↦ elim (eqb n 39) [ true ↦ Desc k | false ↦ Operates (operatorNumbered n k) ] ] ]
