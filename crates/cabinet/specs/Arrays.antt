@@ -1,7 +1,7 @@
 -- The array call: where the words stand that an array cell names.
 use Prim.Native.Nat.{ℕ, _/_}
 use mathlib.Core.List.{List}
-use lib.Dec.{eqb, leb}
+use lib.Dec.{eqb}
 use lib.ListN.{length}
 use Rattle.word.specs.Choices.{if_then_else_}
 use Rattle.handout.specs.HandOut.{handOutNumber, stretchStart, stretchCount}

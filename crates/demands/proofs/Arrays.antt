@@ -7,8 +7,7 @@ use native.Mathlib.Omega.{arith}
 use native.Mathlib.Decide.{ℕ-discrete}
 use lib.ListN.{length, getD}
 use Rattle.word.specs.Field.{bit}
-use Rattle.word.specs.Arrays.{arrayIn}
-use Rattle.word.specs.Layout.{flagOf, presenceOf, sizeOf, addressOf}
+use Rattle.word.specs.Layout.{flagOf, presenceOf, sizeOf, addressOf, arrayIn}
 use Rattle.sheet.specs.Sheets.{codeOf, codeWordsOf, sOf, roomOf, rOf, tableOf}
 use Rattle.inspector.specs.Areas.{area, codeArea, stackArea, tableArea, meets}
 use Rattle.inspector.specs.Cells.{plainWords, arrayFits}

@@ -8,7 +8,7 @@ use native.Mathlib.Omega.{arith}
 use native.Mathlib.Decide.{ℕ-discrete}
 use lib.ListN.{length, getD}
 use Rattle.word.specs.Core.{lengthFits, wordsFit}
-use Rattle.word.specs.Arrays.{arrayIn}
+use Rattle.word.specs.Layout.{arrayIn}
 use Rattle.machine.specs.States.{State}
 use Rattle.machine.specs.Steps.{Ended, next, communicated, stopped, executeOf, refusalOf}
 use Rattle.machine.specs.Runs.{Run}

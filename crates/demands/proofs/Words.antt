@@ -9,8 +9,7 @@ use lib.Dec.{eqb, ltb}
 use lib.IntN.{ℤ, natAbs}
 use Rattle.word.specs.Field.{field, bit, placed, withField, oneOf}
 use Rattle.word.specs.Layout.{flagOf, presenceOf, sizeOf, addressOf}
-use Rattle.word.specs.Numbers.{operandOf, negative, wholeOf}
-use Rattle.word.specs.Answers.{OrNumber, the, givenBack}
+use Rattle.word.specs.Numbers.{operandOf, negative, wholeOf, OrNumber, the, givenBack}
 use Rattle.word.specs.Choices.{if_then_else_}
 use Rattle.word.proofs.Makings.{one-lt, bit-is}
 use Rattle.machine.specs.Arithmetics.{orUnwhole, takenOf, givenOf, dividedOf, reckonOf, relateOf, holds}

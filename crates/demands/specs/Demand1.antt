@@ -11,7 +11,7 @@ use lib.ListN.{length}
 use Rattle.word.specs.Core.{lengthFits, wordsFit}
 use Rattle.machine.specs.declared.outcome.Registers.{Registers}
 use Rattle.machine.specs.States.{stateOf}
-use Rattle.machine.specs.Steps.{refusalOf, Stepped, stepOf}
+use Rattle.machine.specs.Steps.{refusalOf, stepOf}
 use Rattle.machine.specs.Runs.{endsAt, runOf}
 use Rattle.tape.specs.Files.{readNumberOf, readFileOf, writeNumberOf, writeFileOf}
 use Rattle.inspector.specs.Records.{sheetFits}

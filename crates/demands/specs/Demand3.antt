@@ -5,7 +5,7 @@ use Prim.Native.Nat.{ℕ, _<_, _≤_}
 use mathlib.Core.Path.{_≡_}
 use mathlib.Core.List.{List}
 use Rattle.machine.specs.States.{State}
-use Rattle.machine.specs.Runs.{Run, runOf}
+use Rattle.machine.specs.Runs.{runOf}
 use Rattle.inspector.specs.Rules.{rules}
 use Rattle.inspector.specs.Verdicts.{given, verdictOf}
 use Rattle.demands.specs.Stays.{startOf, Reaches, Stays}

@@ -1,5 +1,5 @@
 -- What it is that a segment stays inside its sheet, said of a state that it reaches; demand 3 (Demand3.antt) claims it of every passed segment.
-use Prim.Native.Nat.{ℕ, zero, suc, _+_, _*_, _<_, _≤_}
+use Prim.Native.Nat.{ℕ, zero, suc, _+_, _<_, _≤_}
 use mathlib.Core.Path.{_≡_}
 use mathlib.Core.Logic.{_⊎_}
 use mathlib.Core.Bool.{true, false}

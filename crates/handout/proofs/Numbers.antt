@@ -8,9 +8,8 @@ use borrow.Author.Tests.{lt-ltb, le-ltb, eq-eqb, ne-eqb, ltb-true, leb-true, eqb
 use lib.Dec.{eqb, ltb, leb}
 use lib.ListN.{length}
 use Rattle.word.specs.Core.{lengthFits, wordsFit}
-use Rattle.word.specs.Layout.{flagOf, presenceOf, sizeOf, addressOf}
+use Rattle.word.specs.Layout.{flagOf, presenceOf, sizeOf, addressOf, arrayIn}
 use Rattle.word.specs.Field.{bit}
-use Rattle.word.specs.Arrays.{arrayIn}
 use Rattle.handout.specs.HandOut.{cellWord, cellFits, handOutNumber, stretchStart, stretchCount}
 use Rattle.word.specs.Choices.{if_then_else_}
 use Rattle.word.specs.Addresses.{cellAddress}

@@ -8,9 +8,8 @@ use lib.ListN.{length, getD, take, drop}
 use denote.Ref.{RefT, ptr, now}
 use Rattle.word.specs.Choices.{if_then_else_}
 use Rattle.word.specs.Addresses.{cellAddress}
-use Rattle.word.specs.Arrays.{arrayIn}
 use Rattle.word.specs.Core.{lengthFits, wordsFit}
-use Rattle.word.specs.Layout.{sizeOf, addressOf}
+use Rattle.word.specs.Layout.{sizeOf, addressOf, arrayIn}
 
 -- The word in an array cell.
 abbrev pub cellWord : List ℕ → ℕ → ℕ → ℕ

@@ -10,8 +10,7 @@ use lib.ListN.{length, getD}
 use Rattle.sheet.specs.Sheets.{rOf, cellOf}
 use Rattle.inspector.specs.Areas.{area, clearOf}
 use Rattle.inspector.specs.Cells.{plainWords, arrayFits, unfit}
-use Rattle.word.specs.Arrays.{arrayIn}
-use Rattle.word.specs.Layout.{flagOf, sizeOf, addressOf}
+use Rattle.word.specs.Layout.{flagOf, sizeOf, addressOf, arrayIn}
 
 -- The words of an array below the j-th are plain.
 pub record Plain (core : List ℕ) (a n j : ℕ) : Type 0 where

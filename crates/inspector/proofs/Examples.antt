@@ -7,13 +7,13 @@ use Rattle.inspector.specs.Cells.{plainWords, arrayFits, unfit}
 use Rattle.inspector.specs.Scan.{shapeAt, breaksAt}
 use Rattle.inspector.specs.Targets.{missesTarget}
 use Rattle.inspector.specs.Verdicts.{given, verdictOf}
-use Rattle.inspector.specs.Examples.{exampleCore, exampleSheet}
+use Rattle.inspector.specs.ForTheorems.Examples.{exampleCore, exampleSheet}
 use Rattle.word.specs.Choices.{if_then_else_}
 use Rattle.machine.specs.Branches.{landingOf}
 use Rattle.syllable.specs.Decoding.{decodeOf}
 use Rattle.syllable.specs.Positions.{syllableOf}
 use Rattle.word.specs.Core.{lengthFits, wordsFit}
-use Rattle.word.specs.Arrays.{arrayIn}
+use Rattle.word.specs.Layout.{arrayIn}
 use Rattle.sheet.specs.Sheets.{cellOf}
 
 -- "d=2 passes; d=1: 34 at syllable 1; cell 9 closed: 34 at 3."

@@ -6,8 +6,7 @@ use lib.Dec.{eqb}
 use lib.ListN.{length, getD}
 use Rattle.sheet.specs.Sheets.{rOf, cellOf}
 use Rattle.inspector.specs.Areas.{area, clearOf}
-use Rattle.word.specs.Arrays.{arrayIn}
-use Rattle.word.specs.Layout.{flagOf, sizeOf, addressOf}
+use Rattle.word.specs.Layout.{flagOf, sizeOf, addressOf, arrayIn}
 use Rattle.word.specs.Addresses.{cellAddress}
 
 -- All n words from a on have their flag off.

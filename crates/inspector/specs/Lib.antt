@@ -6,5 +6,5 @@ pub mod Scan
 pub mod Targets
 pub mod Rules
 pub mod Verdicts
-pub mod Examples
 pub mod ForCode
+pub mod ForTheorems

@@ -19,7 +19,7 @@ use Rattle.syllable.specs.declared.Operator.{Operator}
 use Rattle.syllable.specs.declared.Operator.the-variants.{Arithmetic, Relation, Logic, Branch, Mop, Mds, Ssp, Ssn, Chs, Top, Xch, Dup, Del, Nop, Lod, Std, Snd, Inx, Mks, Xit, Com, NotBuilt}
 use Rattle.syllable.specs.declared.Syllable.{Syllable}
 use Rattle.syllable.specs.declared.Syllable.the-variants.{Litc, Opdc, Desc, Operator as Operates}
-use Rattle.syllable.specs.Encoding.{Proper, litc}
+use Rattle.syllable.specs.ForTheorems.Propers.{Proper, litc}
 use Rattle.syllable.specs.Positions.{syllableOf}
 use Rattle.syllable.proofs.RoundTrip.{decode-proper}
 use Rattle.machine.proofs.Sizes.{Gives, goes, stops}

@@ -9,9 +9,8 @@ use Rattle.machine.proofs.Sizes.{Gives, goes, stops, gives-if}
 use Rattle.laws.specs.Fit.{Word}
 use Rattle.word.specs.Field.{placed, withField, oneOf}
 use Rattle.word.specs.Layout.{dataOf, mscwOf, rcwOf}
-use Rattle.word.specs.Numbers.{operandOf, negative}
+use Rattle.word.specs.Numbers.{operandOf, negative, the, givenBack}
 use Rattle.word.specs.Choices.{if_then_else_}
-use Rattle.word.specs.Answers.{the, givenBack}
 use Rattle.word.proofs.Makings.{one-lt}
 use Rattle.syllable.specs.declared.Arithmetic.{Arithmetic}
 use Rattle.syllable.specs.declared.Arithmetic.the-variants.{Add, Sub, Mul, Idv, Rdv}

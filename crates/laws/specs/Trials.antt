@@ -3,8 +3,7 @@ use Prim.Native.Nat.{ℕ, zero, suc, _+_, _*_, _-_, _^_}
 use mathlib.Core.Bool.{Bool, true, false, _&&_}
 use mathlib.Core.List.{List, [], _∷_}
 use lib.Dec.{eqb}
-use lib.ListN.{getD, set, replicate}
-use Rattle.machine.specs.declared.outcome.Registers.{Registers}
+use lib.ListN.{getD, replicate}
 use Rattle.machine.specs.States.{State, stateOf, noRegisters, setS, setR, fillA, fillB, withS, store}
 use Rattle.machine.specs.Steps.{Stepped, stepOf}
 use Rattle.word.specs.Layout.{dataOf}

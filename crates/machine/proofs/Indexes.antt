@@ -15,11 +15,10 @@ use Rattle.machine.specs.Arithmetics.{orUnwhole, takenOf}
 use Rattle.machine.specs.Calls.{withinOf, indexOf}
 use Rattle.machine.proofs.Calculus.{isYes, isNo, isGiven, isCut}
 use Rattle.machine.proofs.Sizes.{Gives, goes, stops, gives-if, gives-bind, given, any}
-use Rattle.word.specs.Numbers.{valueOf, wholeOf}
+use Rattle.word.specs.Numbers.{valueOf, wholeOf, the, givenBack, saysWhole}
 use Rattle.word.specs.Layout.{exponentOf, addressOf}
 use Rattle.word.specs.Field.{withField}
 use Rattle.word.specs.Addresses.{sumOf}
-use Rattle.word.specs.Answers.{the, givenBack, saysWhole}
 use Rattle.word.specs.declared.number.Whole.{Whole}
 use Rattle.word.specs.declared.number.Whole.the-variants.{Number, NotWhole}
 use Rattle.word.proofs.Operands.{value-small}

@@ -15,9 +15,8 @@ use Rattle.machine.specs.Arithmetics.{orUnwhole, takenOf, givenOf, divid
 use Rattle.machine.proofs.Calculus.{isYes, isNo}
 use Rattle.machine.proofs.Integers.{held, reads-one, fits-whole, bits-zero, zero-bits}
 use Rattle.word.specs.Layout.{exponentOf}
-use Rattle.word.specs.Numbers.{valueOf, wholeOf, operandOf}
+use Rattle.word.specs.Numbers.{valueOf, wholeOf, operandOf, OrNumber, the, givenBack, saysWhole, saysMade}
 use Rattle.word.specs.Choices.{if_then_else_}
-use Rattle.word.specs.Answers.{OrNumber, the, givenBack, saysWhole, saysMade}
 use Rattle.word.specs.declared.number.Whole.{Whole}
 use Rattle.word.specs.declared.number.Whole.the-variants.{Number}
 use Rattle.word.specs.declared.number.Made.{Made}

@@ -1,6 +1,6 @@
 -- Arithmetic and relations: "Two": both full, result in B, A empty.
 use Prim.Native.Nat.{ℕ}
-use mathlib.Core.Bool.{Bool, true, false, not, _&&_}
+use mathlib.Core.Bool.{Bool, not, _&&_}
 use lib.Dec.{eqb}
 use lib.IntN.{ℤ, natAbs, _+ℤ_, _-ℤ_, _*ℤ_}
 use lib.Signed.{ltZ, leZ, quotZ, remZ}
@@ -9,8 +9,7 @@ use Rattle.machine.specs.Outcomes.{Res, on, halt, _>>=_}
 use Rattle.machine.specs.States.{State, emptyA, fillB}
 use Rattle.machine.specs.Stack.{bothFullOf}
 use Rattle.word.specs.Field.{oneOf}
-use Rattle.word.specs.Numbers.{wholeOf, operandOf}
-use Rattle.word.specs.Answers.{OrNumber, the, givenBack}
+use Rattle.word.specs.Numbers.{wholeOf, operandOf, OrNumber, the, givenBack}
 use Rattle.syllable.specs.declared.Arithmetic.{Arithmetic}
 use Rattle.syllable.specs.declared.Arithmetic.the-variants.{Add, Sub, Mul, Idv, Rdv}
 use Rattle.syllable.specs.declared.Relation.{Relation}

@@ -1,6 +1,6 @@
 -- Logic, single bits, and the exchanges of A and B.
 use Prim.Native.Nat.{ℕ, _-_, _^_}
-use mathlib.Core.Bool.{Bool, true, false, not}
+use mathlib.Core.Bool.{not}
 use lib.Bits.{bitAnd, bitOr, bitXor}
 use Rattle.machine.specs.Outcomes.{Res, on, _>>=_}
 use Rattle.machine.specs.States.{State, fillA, emptyA, fillB, emptyB}

@@ -1,6 +1,6 @@
 -- The four branches.
 use Prim.Native.Nat.{ℕ, _+_, _-_, _*_, _/_, _%_}
-use mathlib.Core.Bool.{Bool, true, false}
+use mathlib.Core.Bool.{Bool}
 use lib.Dec.{ltb}
 use Rattle.machine.specs.declared.outcome.Cause.the-variants.{Address, Presence}
 use Rattle.machine.specs.Outcomes.{Res, on, halt, _>>=_}

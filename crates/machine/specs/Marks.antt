@@ -1,6 +1,6 @@
 -- MKS and XIT.
-use Prim.Native.Nat.{ℕ, zero, suc, _+_, _-_, _*_}
-use mathlib.Core.Bool.{Bool, true, false, not, _&&_}
+use Prim.Native.Nat.{ℕ, zero, suc, _-_}
+use mathlib.Core.Bool.{true, not, _&&_}
 use mathlib.Core.List.{List}
 use lib.Dec.{eqb}
 use Rattle.machine.specs.declared.outcome.Cause.the-variants.{Address, Flag}

@@ -1,6 +1,5 @@
 -- The run: steps until a stop or the budget is spent.
 use Prim.Native.Nat.{ℕ, zero, suc, _+_}
-use mathlib.Core.Bool.{Bool, true, false}
 use mathlib.Core.List.{List}
 use lib.Dec.{eqb, leb}
 use Rattle.machine.specs.declared.outcome.Registers.{Registers}

@@ -7,7 +7,7 @@ use Rattle.machine.specs.declared.outcome.Cause.{Cause}
 use Rattle.machine.specs.declared.outcome.Cause.the-variants.{Unbuilt}
 use Rattle.machine.specs.declared.outcome.Registers.{Registers}
 use Rattle.machine.specs.declared.outcome.Answer.{Answer}
-use Rattle.machine.specs.Outcomes.{Res, on, halt, _>>=_, numberOf}
+use Rattle.machine.specs.Outcomes.{Res, on, halt, numberOf}
 use Rattle.machine.specs.States.{State, stateOf, withCL}
 use Rattle.machine.specs.Memory.{readOf}
 use Rattle.machine.specs.Arithmetics.{twoOf, reckonOf, relateOf}

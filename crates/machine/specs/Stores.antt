@@ -1,6 +1,5 @@
 -- LITC, LOD, STD, SND and COM.
-use Prim.Native.Nat.{ℕ, _+_, _*_}
-use mathlib.Core.Bool.{Bool, true, false}
+use Prim.Native.Nat.{ℕ}
 use lib.ListN.{length}
 use Rattle.machine.specs.declared.outcome.Cause.the-variants.{Presence}
 use Rattle.machine.specs.Outcomes.{Res, on, halt, _>>=_}

@@ -11,8 +11,9 @@ use Rattle.syllable.specs.declared.Syllable.{Syllable}
 use Rattle.syllable.specs.declared.Syllable.the-variants.{Litc, Opdc, Desc, Operator as Operates}
 use Rattle.syllable.specs.Codes.{operatorCode, listed}
 use Rattle.syllable.specs.Decoding.{sortOf, operatorIn, decodeAs, decodeOf}
-use Rattle.syllable.specs.Encoding.{encodeOf, Unlisted, Proper, litc, opdc, desc, built, others}
+use Rattle.syllable.specs.Encoding.{encodeOf}
 use Rattle.syllable.proofs.Finding.{Found, here, nowhere, found}
+use Rattle.syllable.specs.ForTheorems.Propers.{Unlisted, Proper, litc, opdc, desc, built, others}
 
 -- the syllable that an operator's code is read as
 abbrev back : Operator → Syllable

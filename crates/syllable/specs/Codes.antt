@@ -1,5 +1,4 @@
 -- The operators of paper 01 and their codes, in octal.
--- Assumes nothing.
 use mathlib.Core.List.{List, [], _∷_}
 use Prim.Native.Nat.{ℕ, _+_, _*_, _%_}
 use Rattle.syllable.specs.declared.Arithmetic.the-variants.{Add, Sub, Mul, Idv, Rdv}

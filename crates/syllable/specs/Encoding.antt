@@ -1,5 +1,4 @@
--- The syllable that reads as a given one; and which are proper, that is, which some syllable of 12 bits reads as.
--- Assumes nothing.
+-- The syllable that reads as a given one.
 use mathlib.Core.Path.{_≡_}
 use mathlib.Core.List.{List·Memᴰ}
 use Prim.Native.Nat.{ℕ, _+_, _*_, _%_, _<_}
@@ -15,15 +14,3 @@ encodeOf (Litc k) = 4 * (k % 1024)
 encodeOf (Opdc k) = 4 * (k % 1024) + 2
 encodeOf (Desc k) = 4 * (k % 1024) + 3
 encodeOf (Operates o) = operatorCode o
-
--- y is the code of no listed operator
-abbrev pub Unlisted : ℕ → Type 0
-Unlisted y = (o : Operator) → List·Memᴰ o listed → operatorCode o ≡ y → ⊥
-
--- a number k of ten bits; an operator that is listed; or one that is not built, with the number of a code that is not listed
-pub data Proper : Syllable → Type 0 where
-  litc : {k : ℕ} → k < 1024 → Proper (Litc k)
-  opdc : {k : ℕ} → k < 1024 → Proper (Opdc k)
-  desc : {k : ℕ} → k < 1024 → Proper (Desc k)
-  built : {o : Operator} → List·Memᴰ o listed → Proper (Operates o)
-  others : {k : ℕ} → k < 1024 → Unlisted (4 * k + 1) → Proper (Operates (NotBuilt k))

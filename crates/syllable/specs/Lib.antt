@@ -4,3 +4,4 @@ pub mod Encoding
 pub mod Numbers
 pub mod Positions
 pub mod ForCode
+pub mod ForTheorems

@@ -1,13 +1,9 @@
 -- The operator numbers: those of the table of 4,096, and what each stands for.
--- Assumes nothing.
-use mathlib.Core.Bool.{Bool, true, false}
+use mathlib.Core.Bool.{true, false}
 use mathlib.Core.List.{List, [], _∷_}
 use Prim.Native.Nat.{ℕ, zero, suc, _%_}
 use lib.Dec.{eqb}
 use Rattle.syllable.specs.declared.Operator.{Operator}
-use Rattle.syllable.specs.declared.Operator.the-variants.{NotBuilt}
-use Rattle.syllable.specs.declared.Syllable.{Syllable}
-use Rattle.syllable.specs.declared.Syllable.the-variants.{Litc, Opdc, Desc, Operator as Operates}
 use Rattle.syllable.specs.Codes.{operatorCode, listed}
 use Rattle.syllable.specs.Decoding.{Sort, literal, operandCall, descriptorCall, operator, sortOf}
 

@@ -1,5 +1,4 @@
 -- Where syllables stand in a word, and what comes after a syllable.
--- Assumes nothing.
 use Prim.Native.Nat.{ℕ, _+_, _*_, _/_, _%_}
 use Rattle.syllable.specs.declared.Position.{Position}
 use Rattle.word.specs.Field.{field}

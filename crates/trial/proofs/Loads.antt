@@ -11,7 +11,7 @@ use lib.ListN.{length, take, drop, replicate}
 use lib.Seq.{length-take-le}
 use Rattle.machine.specs.Runs.{runOf}
 use Rattle.word.specs.Choices.{if_then_else_}
-use Rattle.word.specs.Answers.{the, givenBack}
+use Rattle.word.specs.Numbers.{the, givenBack}
 use Rattle.tape.specs.Files.{wordsOf, coreNumberOf, readNumberOf, readFileOf, FileRead}
 use Rattle.trial.specs.declared.trials.Sum.{Sum}
 use Rattle.trial.specs.Trials.{refusedOf, filledOf, start, summaryOf, trialOf, Told}

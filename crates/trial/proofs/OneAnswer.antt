@@ -1,7 +1,7 @@
 -- Any two permitted answers of a call are equal, and so is what they leave behind its references.
 use mathlib.Core.Path.{_≡_, refl}
 use denote.Ref.{now}
-use Rattle.word.specs.Answers.{OrNumber, the, givenBack}
+use Rattle.word.specs.Numbers.{OrNumber, the, givenBack}
 use Rattle.word.proofs.Sole.{sole, sole-said}
 use Rattle.trial.specs.declared.trials.Sum.{Sum}
 use Rattle.trial.specs.declared.trials.Outcome.{Outcome}

@@ -5,7 +5,7 @@ use mathlib.Core.List.{List, [], _∷_, _++_}
 use lib.Dec.{eqb}
 use lib.ListN.{length, drop, set}
 use Rattle.word.specs.Choices.{if_then_else_}
-use Rattle.word.specs.Answers.{OrNumber, the, givenBack}
+use Rattle.word.specs.Numbers.{OrNumber, the, givenBack}
 use Rattle.word.specs.Digits.{digits}
 use Rattle.trial.specs.declared.trials.Sum.{Sum}
 

@@ -3,7 +3,7 @@ use Prim.Native.Nat.{ℕ, _-_, _/_}
 use mathlib.Core.Path.{_≡_}
 use mathlib.Core.List.{List, _++_}
 use lib.Dec.{eqb, leb}
-use lib.ListN.{getD, drop, replicate}
+use lib.ListN.{getD, replicate}
 use Rattle.machine.specs.declared.outcome.Registers.{Registers}
 use Rattle.machine.specs.States.{noRegisters, setS, setR}
 use Rattle.machine.specs.Runs.{Run, runOf}
@@ -12,7 +12,7 @@ use Rattle.trial.specs.declared.trials.Sum.{Sum}
 use Rattle.trial.specs.declared.trials.Outcome.{Outcome}
 use Rattle.trial.specs.declared.trials.Outcome.the-variants.{Refused, Ended}
 use Rattle.word.specs.Choices.{if_then_else_}
-use Rattle.word.specs.Answers.{OrNumber, the, givenBack}
+use Rattle.word.specs.Numbers.{OrNumber, the, givenBack}
 
 -- Why an input is refused, or 0: by its whole length as a core file is, then "over 4,096 words is 1", then as its bytes are read.
 unfoldable pub refusedOf : List ℕ → ℕ → ℕ

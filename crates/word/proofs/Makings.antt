@@ -6,7 +6,7 @@ use native.Mathlib.Omega.{arith}
 use borrow.Author.Tests.{eq-eqb, ne-eqb}
 use Rattle.word.specs.Field.{field, bit, oneOf}
 use Rattle.word.specs.Layout.{flagOf, presenceOf, sizeOf, addressOf, dataOf, modeOf, argumentOf, fFieldOf, programOf, mscwROf, mscwMsffOf, mscwSalfOf, mscwOf, rcwCallOf, rcwLOf, rcwCOf, rcwOf}
-use Rattle.word.specs.Backs.{DataBack, ProgramBack, MscwBack, RcwBack}
+use Rattle.word.specs.ForTheorems.Backs.{DataBack, ProgramBack, MscwBack, RcwBack}
 
 pub one-lt : (b : Bool) → oneOf b < 2
 one-lt true = omega arith

@@ -4,7 +4,7 @@ use mathlib.Core.Path.{_≡_, refl}
 use mathlib.Core.Option.{Option, some, none}
 use lib.IntN.{ℤ}
 use denote.Ref.{now}
-use Rattle.word.specs.Answers.{OrNumber, the, givenBack, saysWhole, saysMade, saysReading}
+use Rattle.word.specs.Numbers.{OrNumber, the, givenBack, saysWhole, saysMade}
 use Rattle.word.specs.declared.number.Whole.{Whole}
 use Rattle.word.specs.declared.number.Whole.the-variants.{Number, NotWhole}
 use Rattle.word.specs.declared.number.Made.{Made}
@@ -49,6 +49,7 @@ use Rattle.word.proofs.layout.with_size.Reads as with-size
 use Rattle.word.proofs.number.operand_of.Reads as operand-of
 use Rattle.word.proofs.number.value.Reads as value
 use Rattle.word.proofs.number.whole_of.Reads as whole-of
+use Rattle.word.specs.Digits.{saysReading}
 
 -- Each enum comes back from what its cases say, so the saying is one to one.
 abbrev whole : OrNumber ℤ → Whole

@@ -13,9 +13,8 @@ use mir.Val.{SFits, Fits, ofZ, toZ}
 use mir.ValLaws.{toZ-pos, toZ-ofZ}
 use Rattle.word.specs.Field.{field, placed, oneOf}
 use Rattle.word.specs.Layout.{signOf, exponentOf, magnitudeOf}
-use Rattle.word.specs.Numbers.{signed, valueOf, wholeOf, operandOf, negative}
+use Rattle.word.specs.Numbers.{signed, valueOf, wholeOf, operandOf, negative, OrNumber, the, givenBack}
 use Rattle.word.specs.Choices.{if_then_else_}
-use Rattle.word.specs.Answers.{OrNumber, the, givenBack}
 use Rattle.word.proofs.Makings.{bit-is}
 use Rattle.word.proofs.Signed.{back, minus-fits, minus-back, abs-neg, true-false, test-back, test-back-right, casts, below-zero, not-below-zero}
 

@@ -6,6 +6,8 @@ use mathlib.Core.Option.{Option, some, none}
 use lib.Dec.{leb, ltb}
 use lib.ListN.{length, getD}
 use Rattle.word.specs.Choices.{if_then_else_}
+use Rattle.word.specs.declared.digits.Reading.{Reading}
+use Rattle.word.specs.declared.digits.Reading.the-variants.{Number, Refused}
 
 -- The last `count` digits of a number, the highest first: digit k from the end is worth base ^ k.
 unfoldable pub digits : ℕ → ℕ → ℕ → List ℕ
@@ -36,3 +38,8 @@ ifWord n = if ltb n (2 ^ 48) then some n else none
 -- Digits are read as a word, or none where the base is not 2 to 256.
 unfoldable pub fromDigitsOf : ℕ → List ℕ → Option ℕ
 fromDigitsOf base ds = if byteBase base then ifWord (numeral base ds) else none
+
+-- A word, or none: the paper has no number for digits that say no word.
+abbrev pub saysReading : Reading → Option ℕ
+saysReading (Number n) = some n
+saysReading Refused = none

@@ -1,6 +1,7 @@
 -- The layouts of paper 01: each field read by its bits, and each word made. "Fields not named are written 0."
 use Prim.Native.Nat.{ℕ, _+_}
-use mathlib.Core.Bool.{Bool}
+use mathlib.Core.Bool.{Bool, not, _&&_}
+use lib.Dec.{ltb, leb}
 use Rattle.word.specs.Field.{field, placed, bit, oneOf}
 
 -- "Bit 0 is the flag."
@@ -33,6 +34,10 @@ addressOf w = field w 33 47
 
 abbrev pub dataOf : Bool → ℕ → ℕ → ℕ
 dataOf presence size address = placed 0 0 1 + placed 2 2 (oneOf presence) + placed 8 17 size + placed 33 47 address
+
+-- "a present data descriptor of size over 0 wholly in core", of a core of `len` words
+unfoldable pub arrayIn : ℕ → ℕ → Bool
+arrayIn len w = flagOf w && not (bit w 1) && presenceOf w && ltb 0 (sizeOf w) && leb (addressOf w + sizeOf w) len
 
 -- "Program descriptor: bits 0, 1, 3 on, 2 presence, 4 mode, 5 argument, 18-32 F field, 33-47 address."
 abbrev pub modeOf : ℕ → Bool

@@ -1,11 +1,9 @@
 pub mod Choices
-pub mod Answers
 pub mod Field
 pub mod Layout
-pub mod Backs
 pub mod Kinds
 pub mod Numbers
 pub mod Addresses
-pub mod Arrays
 pub mod Digits
 pub mod Core
+pub mod ForTheorems

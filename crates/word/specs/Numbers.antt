@@ -6,7 +6,15 @@ use lib.IntN.{ℤ, pos, negsuc, negℤ, natAbs}
 use Rattle.word.specs.Field.{placed, oneOf}
 use Rattle.word.specs.Layout.{signOf, exponentOf, magnitudeOf}
 use Rattle.word.specs.Choices.{if_then_else_}
-use Rattle.word.specs.Answers.{OrNumber, the, givenBack}
+use Rattle.word.specs.declared.number.Whole.{Whole}
+use Rattle.word.specs.declared.number.Whole.the-variants.{Number, NotWhole}
+use Rattle.word.specs.declared.number.Made.{Made}
+use Rattle.word.specs.declared.number.Made.the-variants.{Word, PastWhole}
+
+-- "Numbers given back": a value, or the number given back in its place.
+pub data OrNumber (A : Type 0) : Type 0 where
+  the : A → OrNumber A
+  givenBack : ℕ → OrNumber A
 
 -- The number with this sign and magnitude; minus zero is zero.
 abbrev pub signed : Bool → ℕ → ℤ
@@ -30,3 +38,12 @@ negative (negsuc n) = true
 unfoldable pub operandOf : ℤ → OrNumber ℕ
 operandOf z =
     if ltb (natAbs z) (2 ^ 39) then the (placed 1 1 (oneOf (negative z)) + placed 9 47 (natAbs z)) else givenBack 20
+
+-- "20: number not whole 39-bit"
+abbrev pub saysWhole : Whole → OrNumber ℤ
+saysWhole (Number z) = the z
+saysWhole NotWhole = givenBack 20
+
+abbrev pub saysMade : Made → OrNumber ℕ
+saysMade (Word w) = the w
+saysMade PastWhole = givenBack 20

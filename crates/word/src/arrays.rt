@@ -5,7 +5,7 @@ use crate::layout::presence;
 use crate::layout::sign;
 use crate::layout::size;
 ghost use mathlib.Core.Path.{_≡_};
-ghost use Rattle.word.specs.Arrays.{arrayIn};
+ghost use Rattle.word.specs.Layout.{arrayIn};
 
 // A present data descriptor of size over 0, wholly in a core of len words.
 pub fn array_in(len: usize, w: u64) -> bool

@@ -5,7 +5,7 @@ use mathlib.Core.Bool.{Bool, true, false}
 use Rattle.word.proofs.Sole.{sole}
 use Rattle.wording.specs.declared.numbers.Signed.{Signed}
 use Rattle.wording.specs.declared.numbers.Signed.the-variants.{Plus, Minus, NotWhole}
-use Rattle.word.specs.Answers.{OrNumber, the, givenBack}
+use Rattle.word.specs.Numbers.{OrNumber, the, givenBack}
 use Rattle.wording.specs.Signs.{saysSigned}
 use Rattle.wording.proofs.commands.command_of.Reads as command-of
 use Rattle.wording.proofs.names.name_of.Reads as name-of

@@ -6,9 +6,8 @@ use native.Mathlib.Omega.{arith}
 use borrow.Author.Tests.{eq-eqb, ne-eqb}
 use lib.IntN.{natAbs}
 use Rattle.word.specs.Layout.{signOf, exponentOf, magnitudeOf}
-use Rattle.word.specs.Numbers.{signed, negative, valueOf, wholeOf}
+use Rattle.word.specs.Numbers.{signed, negative, valueOf, wholeOf, OrNumber, the}
 use Rattle.wording.specs.declared.numbers.Signed.the-variants.{Plus, Minus, NotWhole}
-use Rattle.word.specs.Answers.{OrNumber, the}
 use Rattle.word.specs.Choices.{if_then_else_}
 use Rattle.wording.specs.Signs.{saysSigned, signedOf}
 

@@ -1,5 +1,4 @@
 -- The runner's commands, by their words and how many arguments there are, the program's own name among them.
--- Assumes nothing.
 use Prim.Native.Nat.{ℕ}
 use mathlib.Core.Bool.{Bool, true, false, _&&_, _||_}
 use mathlib.Core.List.{List, [], _∷_}

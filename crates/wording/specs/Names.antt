@@ -1,5 +1,4 @@
 -- The names of syllables, by their operator numbers in the table of 4,096.
--- Assumes nothing.
 use Prim.Native.Nat.{ℕ}
 use Prim.Native.String.{String}
 use mathlib.Core.List.{List, [], _∷_}

@@ -2,9 +2,8 @@
 ghost use mathlib.Core.Path.{_≡_};
 ghost use Prim.Native.Nat.{_<_};
 ghost use lib.IntN.{natAbs};
-ghost use Rattle.word.specs.Numbers.{signed, negative, wholeOf};
+ghost use Rattle.word.specs.Numbers.{signed, negative, wholeOf, the};
 ghost use Rattle.wording.specs.FromText.{fromTextOf};
-ghost use Rattle.word.specs.Answers.{the};
 ghost use Rattle.wording.specs.Signs.{saysSigned, signedOf};
 ghost use Rattle.wording.specs.ForCode.Caps.{cappedOf};
 

@@ -5,7 +5,6 @@ use mathlib.Core.Bool.{Bool, true, false}
 use mathlib.Core.List.{List}
 use lib.IntN.{ℤ}
 use lib.ListN.{set}
-use Rattle.machine.specs.declared.outcome.Registers.{Registers}
 use Rattle.machine.specs.declared.outcome.Went.{Went}
 use Rattle.machine.specs.declared.outcome.Went.the-variants.{On, Stop}
 use Rattle.machine.specs.declared.outcome.Part.{Part}

@@ -1,5 +1,5 @@
 -- The text of arrayIn, test by test.
-use Rattle.word.specs.Arrays.{arrayIn}
+use Rattle.word.specs.Layout.{arrayIn}
 use borrow.Author.Needs.{needs}
 use Rattle.word.proofs.arrays.array_in.Statement.{statement}
 use Rattle.word.proofs.arrays.array_in.Tie as tie

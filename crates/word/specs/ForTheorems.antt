@@ -1,0 +1,2 @@
+-- What only theorems speak of: no public claim names it.
+pub mod Backs
