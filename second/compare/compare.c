@@ -7,6 +7,7 @@
 #include "cases/cases.h"
 #include "machine/plant.h"
 #include "maker/chance.h"
+#include "reached/causes.h"
 #include "reached/pairs.h"
 #include "sheets/damage/clauses.h"
 #include "sheets/edges.h"
@@ -73,9 +74,10 @@ static unsigned compare_sheets(uint64_t eighth)
 }
 
 /* What had to be reached. A few cases reach too little, so a plant is not judged by it. */
-static unsigned report_reached(void)
+static unsigned report_reached(uint64_t count)
 {
     unsigned missing = report("pairs of operator and stop", pairs_all(), pairs_missing());
+    missing += report("causes of a stop", causes_all(), causes_missing(count / 10000));
     missing += report("clauses of the inspector", clauses_all(), clauses_missing());
     missing += report("numbers with enough places", 6, places_missing());
     missing += report("bounds that pass", edges_all(), edges_missing());
@@ -93,6 +95,6 @@ int main(int argc, char **argv)
     uint64_t eighth = count / 8;
     chance_seed(seed);
     unsigned failures = compare_machines(count, eighth) + compare_sheets(eighth);
-    unsigned missing = report_reached();
+    unsigned missing = report_reached(count);
     return failures + (differences_only ? 0 : missing) != 0;
 }

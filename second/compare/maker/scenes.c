@@ -2,40 +2,10 @@
 #include "scenes.h"
 #include "../../codes.h"
 #include "../machine/operations.h"
+#include "syllables.h"
 #include "words.h"
 
-/* ---- any syllable */
-
-/* A number k whose address is mostly near a word of core, by each pattern. */
-static uint64_t chance_k(const struct state *st)
-{
-    uint64_t m = chance_address(st), table = 64 * st->g.R, base = st->g.F, k = chance(1024);
-    if (one_in(8))
-        return k;
-    if (!st->g.SALF)
-        return (m - table) % 1024;
-    if (st->g.MSFF && table + 7 < st->length)
-        base = st->core[table + 7] >> 15 & 077777;
-    switch (chance(4)) {
-    case 0: return (m - table) % 512;
-    case 1: return 01000 | (m - base) % 256;
-    case 2: return 01400 | (m - st->g.C) % 128;
-    default: return 01600 | (base - m) % 128;
-    }
-}
-
-static unsigned chance_syllable(const struct state *st)
-{
-    switch (chance(16)) {
-    case 0: return below(4096);
-    case 1: return LITC(chance_k(st));
-    case 2: case 3: case 4: return OPDC(chance_k(st));
-    case 5: case 6: return DESC(chance_k(st));
-    default: return operator_code(below(OPERATORS));
-    }
-}
-
-/* ---- edges */
+/* ---- XIT */
 
 /* Control words where XIT looks for them: a return, its mark, and a chain that ends or loops. */
 static void chance_chain(struct state *st)
@@ -69,6 +39,15 @@ static void longest_chain(struct state *st)
     st->g.L = 0;
 }
 
+static unsigned leave(struct state *st)
+{
+    if (!one_in(4))
+        chance_chain(st);
+    return XIT;
+}
+
+/* ---- numbers and branches */
+
 static void fill(struct state *st, uint64_t a, uint64_t b)
 {
     st->g.a_full = st->g.b_full = 1;
@@ -76,8 +55,8 @@ static void fill(struct state *st, uint64_t a, uint64_t b)
     st->g.B = b;
 }
 
-/* A sum, a difference or a product at the largest magnitude, or one past it. */
-static void numbers_at_the_limit(struct state *st)
+/* A sum, a difference or a product at the largest magnitude, or one past it; or a zero in A. */
+static unsigned numbers_at_the_limit(struct state *st)
 {
     uint64_t a = chance(LARGEST), signs = chance(4), power = chance(40);
     uint64_t b = LARGEST - a + chance(2);
@@ -86,30 +65,86 @@ static void numbers_at_the_limit(struct state *st)
         b = UINT64_C(1) << (39 - power);
         a -= chance(2);
     }
+    if (one_in(6))
+        a = 0;
     fill(st, (a & LARGEST) | (signs & 1 ? ON(1) : 0), (b & LARGEST) | (signs & 2 ? ON(1) : 0));
+    return operator_code(OP_ADD + below(11));
+}
+
+/* In a full core: near the first syllable, near the last, or the last itself, after which is 0. */
+static void place_at_an_end(struct state *st)
+{
+    switch (chance(4)) {
+    case 0: st->g.C = chance(1000); break;
+    case 1: st->g.C = MOST - 1; st->g.L = 3; break;
+    default: st->g.C = MOST - 1 - chance(1000); break;
+    }
 }
 
 /* A branch to the first or the last syllable, or just past it. */
-static void branch_to_the_end(struct state *st)
+static unsigned branch_to_the_end(struct state *st)
 {
     if (st->length == MOST)
-        st->g.C = one_in(2) ? chance(1000) : MOST - 1 - chance(1000);
+        place_at_an_end(st);
     uint64_t next = (4 * st->g.C + st->g.L + 1) % (4 * MOST);
-    uint64_t distance = next <= 4095 ? next + chance(2) : 4 * MOST - 1 - next + chance(2);
+    bool forward = next > 4095;
+    uint64_t distance = (forward ? 4 * MOST - 1 - next : next) + chance(2);
     fill(st, distance % 4096, chance(10) & ~UINT64_C(1));
+    if (one_in(8))
+        forward = !forward;
+    return forward ? one_in(2) ? BFW : BFC : one_in(2) ? BBW : BBC;
+}
+
+/* ---- stack and table */
+
+/* The word is put in a cell of the table; answers its k. */
+static uint64_t put_in_cell(struct state *st, uint64_t word)
+{
+    st->g.R = chance(1 + (st->length - 1) / 64);
+    st->g.SALF = 0;
+    uint64_t words = st->length - 64 * st->g.R, k = chance(words < 1024 ? words : 1024);
+    st->core[64 * st->g.R + k] = word;
+    return k;
+}
+
+/* A register is empty, and the stack ends at 0 or is outside core. */
+static unsigned short_of_words(struct state *st)
+{
+    uint64_t empty = chance(3);
+    if (empty != 1)
+        st->g.A = st->g.a_full = 0;
+    if (empty != 2)
+        st->g.B = st->g.b_full = 0;
+    st->g.S = one_in(2) ? chance(2) : st->length % MOST;
+    if (!one_in(6))
+        return operator_code(below(OPERATORS));
+    uint64_t k = put_in_cell(st, ON(0) | ON(2) | (1 + chance(8)) << 30 | chance_address(st));
+    return one_in(2) ? OPDC(k) : DESC(k);
+}
+
+/* A place by each pattern of k. */
+static unsigned place_by_k(struct state *st)
+{
+    static const unsigned operators[] = {LOD, STD, SND};
+    uint64_t rest = chance(2) ? chance(ON(0)) & ~UINT64_C(01777) : 0;
+    fill(st, rest | chance_k(st), chance_word(st));
+    return operators[chance(3)];
 }
 
 unsigned chance_scene(struct state *st)
 {
-    switch (chance(st->length == MOST ? 6 : 12)) {
-    case 0:
-        if (st->length == MOST && one_in(2))
-            longest_chain(st);
-        else if (!one_in(4))
-            chance_chain(st);
+    if (st->length == MOST && one_in(2)) {
+        if (!one_in(8))
+            return branch_to_the_end(st);
+        longest_chain(st);
         return XIT;
-    case 1: numbers_at_the_limit(st); return operator_code(OP_ADD + below(11));
-    case 2: branch_to_the_end(st); return operator_code(OP_BFW + below(4));
+    }
+    switch (chance(16)) {
+    case 0: return leave(st);
+    case 1: return numbers_at_the_limit(st);
+    case 2: return branch_to_the_end(st);
+    case 3: case 4: return short_of_words(st);
+    case 5: case 6: return place_by_k(st);
     default: return chance_syllable(st);
     }
 }

@@ -4,9 +4,12 @@
 #include "scenes.h"
 #include "words.h"
 
+/* The words of a large core repeat themselves, so that there is time for many. */
+enum { REPEATED = 1021 };
+
 static size_t chance_length(void)
 {
-    if (one_in(250))
+    if (one_in(100))
         return MOST - (one_in(3) ? chance(3) : 0);
     switch (chance(12)) {
     case 0: return 1 + chance(12);
@@ -48,7 +51,7 @@ void chance_state(struct state *st)
     st->length = chance_length();
     st->g = (struct second_registers){0};
     for (size_t i = 0; i < st->length; i++)
-        st->core[i] = chance_word(st);
+        st->core[i] = i < REPEATED ? chance_word(st) : st->core[i - REPEATED];
     st->g.R = chance_r(st);
     st->g.S = chance_s(st);
     st->g.F = one_in(4) ? st->g.S : chance_address(st);
