@@ -81,7 +81,8 @@ static unsigned report_reached(uint64_t count)
     missing += report("clauses of the inspector", clauses_all(), clauses_missing());
     missing += report("numbers with enough places", 6, places_missing());
     missing += report("bounds that pass", edges_all(), edges_missing());
-    return missing + report("stops of segments", 10, stops_missing());
+    missing += report("stops of segments", 10, stops_missing());
+    return missing + report("sizes of core, watched", sizes_all(), sizes_missing());
 }
 
 int main(int argc, char **argv)

@@ -5,24 +5,15 @@
 #include <stdio.h>
 #include <string.h>
 
-/* The cabinet's side, with bytes after each buffer that nobody may touch. */
-enum { GUARD = 16, UNTOUCHED = 0xA5 };
+/* The cabinet's side. */
 static uint8_t core_bytes[WORD * MOST + GUARD], row_bytes[ROW + GUARD];
 
 static void take_over(const struct state *st)
 {
     words_to_bytes(st->core, st->length, core_bytes);
     registers_to_row(&st->g, row_bytes);
-    memset(core_bytes + WORD * st->length, UNTOUCHED, GUARD);
-    memset(row_bytes + ROW, UNTOUCHED, GUARD);
-}
-
-static bool guarded(const uint8_t *guard)
-{
-    for (unsigned i = 0; i < GUARD; i++)
-        if (guard[i] != UNTOUCHED)
-            return false;
-    return true;
+    put_guard(core_bytes + WORD * st->length);
+    put_guard(row_bytes + ROW);
 }
 
 static char text[200];
@@ -74,17 +65,15 @@ static void spoil(const struct state *st, uint64_t *number)
         core_bytes[WORD * (st->length - 1) + 5] ^= 1;
 }
 
-struct verdict both_step_watched(struct state *st, const struct second_watch *watch)
+struct verdict both_step(struct state *st)
 {
     take_over(st);
     uint64_t ours = fifty_five_step(core_bytes, WORD * st->length, row_bytes, ROW);
-    struct verdict v = {.number = (uint64_t)second_step_watched(st->core, st->length, &st->g, watch)};
+    struct verdict v = {.number = (uint64_t)second_step(st->core, st->length, &st->g)};
     spoil(st, &ours);
     v.difference = difference(st, ours, v.number);
     return v;
 }
-
-struct verdict both_step(struct state *st) { return both_step_watched(st, NULL); }
 
 struct verdict both_run(struct state *st, uint64_t budget)
 {

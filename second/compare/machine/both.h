@@ -10,7 +10,6 @@ struct verdict {
     const char *difference;
 };
 struct verdict both_step(struct state *st);
-struct verdict both_step_watched(struct state *st, const struct second_watch *watch);
 struct verdict both_run(struct state *st, uint64_t budget);
 
 #endif

@@ -28,3 +28,31 @@ void registers_to_row(const struct second_registers *g, uint8_t row[ROW])
         [FIFTY_FIVE_SALF] = g->SALF, [FIFTY_FIVE_MSFF] = g->MSFF};
     words_to_bytes(words, sizeof words / sizeof *words, row);
 }
+
+void row_to_registers(const uint8_t row[ROW], struct second_registers *g)
+{
+    uint64_t words[ROW / WORD];
+    bytes_to_words(row, ROW / WORD, words);
+    *g = (struct second_registers){
+        .A = words[FIFTY_FIVE_A], .a_full = words[FIFTY_FIVE_A_FULL],
+        .B = words[FIFTY_FIVE_B], .b_full = words[FIFTY_FIVE_B_FULL],
+        .S = words[FIFTY_FIVE_S], .F = words[FIFTY_FIVE_F], .C = words[FIFTY_FIVE_C],
+        .R = words[FIFTY_FIVE_R], .L = words[FIFTY_FIVE_L],
+        .SALF = words[FIFTY_FIVE_SALF], .MSFF = words[FIFTY_FIVE_MSFF]};
+}
+
+enum { UNTOUCHED = 0xA5 };
+
+void put_guard(uint8_t *after)
+{
+    for (unsigned i = 0; i < GUARD; i++)
+        after[i] = UNTOUCHED;
+}
+
+bool guarded(const uint8_t *after)
+{
+    for (unsigned i = 0; i < GUARD; i++)
+        if (after[i] != UNTOUCHED)
+            return false;
+    return true;
+}

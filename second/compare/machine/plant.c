@@ -2,7 +2,7 @@
 #include "plant.h"
 
 const char *const plant_names[PLANTS] = {"nothing", "number", "register", "core", "completed",
-                                         "verdict", "place",  "watch",    "post", "bounds",   "cause"};
+                                         "verdict", "place",  "watch",    "post", "bounds",   "cause", "trace"};
 
 static enum plant waiting = PLANT_NOTHING;
 

@@ -2,8 +2,6 @@
 #ifndef SECOND_STATE_H
 #define SECOND_STATE_H
 
-#include <stdbool.h>
-
 #include "crossing.h"
 
 /* Bit n of a word, and the largest magnitude. */

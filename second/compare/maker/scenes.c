@@ -88,7 +88,7 @@ static unsigned branch_to_the_end(struct state *st)
         place_at_an_end(st);
     uint64_t next = (4 * st->g.C + st->g.L + 1) % (4 * MOST);
     bool forward = next > 4095;
-    uint64_t distance = (forward ? 4 * MOST - 1 - next : next) + chance(2);
+    uint64_t distance = (forward ? 4 * MOST - 1 - next : next) + chance(3);
     fill(st, distance % 4096, chance(10) & ~UINT64_C(1));
     if (one_in(8))
         forward = !forward;
@@ -122,6 +122,13 @@ static unsigned short_of_words(struct state *st)
     return one_in(2) ? OPDC(k) : DESC(k);
 }
 
+/* A word of any kind is called. */
+static unsigned call_a_cell(struct state *st)
+{
+    uint64_t k = put_in_cell(st, chance_word(st));
+    return one_in(2) ? OPDC(k) : DESC(k);
+}
+
 /* A place by each pattern of k. */
 static unsigned place_by_k(struct state *st)
 {
@@ -145,6 +152,7 @@ unsigned chance_scene(struct state *st)
     case 2: return branch_to_the_end(st);
     case 3: case 4: return short_of_words(st);
     case 5: case 6: return place_by_k(st);
+    case 7: return call_a_cell(st);
     default: return chance_syllable(st);
     }
 }

@@ -6,7 +6,7 @@
 #include <stdio.h>
 #include <string.h>
 
-enum { GUARD = 16, UNTOUCHED = 0xA5, MARK = 0xBEEF };
+enum { MARK = 0xBEEF };
 
 /* Two words more than a core has, for the lengths that are refused. */
 static uint8_t bytes[WORD * (MOST + 3) + GUARD], before[WORD * (MOST + 3) + GUARD];
@@ -15,7 +15,7 @@ static char text[200];
 static void take_over(const struct segment *seg)
 {
     words_to_bytes(seg->st.core, seg->st.length, bytes);
-    memset(bytes + WORD * seg->st.length, UNTOUCHED, GUARD);
+    put_guard(bytes + WORD * seg->st.length);
 }
 
 static const char *differs(const char *what, uint64_t ours, uint64_t second)

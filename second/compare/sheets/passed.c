@@ -33,23 +33,39 @@ unsigned stops_missing(void)
     return missing;
 }
 
-/* ---- segments that pass */
+/* ---- the sizes of core in which our machine was watched */
 
-/* A step looks at the whole core, so a large core makes fewer of them. A short segment is compared after every step. */
-enum { LARGE = 3000, SHORT = 200, BESIDE = 40 };
+enum { SIZES = 6, LEAST = 100 };
+static const size_t sizes[SIZES] = {256, 1024, 4096, 16384, MOST - 1, MOST};
+static uint64_t steps_watched[SIZES];
 
-static uint64_t chance_budget(void)
+static void note_steps(uint64_t steps)
 {
-    if (seg.st.length > LARGE)
-        return chance(60);
-    return one_in(4) ? chance(3000) : chance(SHORT);
+    unsigned i = 0;
+    while (seg.st.length > sizes[i])
+        i++;
+    steps_watched[i] += steps;
 }
 
-static uint64_t chance_beside(uint64_t budget)
+unsigned sizes_all(void) { return SIZES; }
+
+unsigned sizes_missing(void)
 {
-    if (seg.st.length > LARGE)
-        return 4;
-    return budget < SHORT || one_in(64) ? budget : BESIDE;
+    unsigned missing = 0;
+    for (unsigned i = 0; i < SIZES; i++) {
+        printf("steps watched in cores up to %5zu words: %llu\n", sizes[i], (unsigned long long)steps_watched[i]);
+        missing += steps_watched[i] < LEAST;
+    }
+    return missing;
+}
+
+/* ---- segments that pass */
+
+/* A step of ours looks at the whole core, so a large core makes fewer of them. */
+static uint64_t chance_budget(void)
+{
+    uint64_t most = 1500000 / (1000 + seg.st.length);
+    return one_in(32) || most < 200 ? chance(most) : chance(200);
 }
 
 /* A post may go on for longer, at times for all that a budget can be. */
@@ -60,9 +76,19 @@ static uint64_t chance_post_budget(uint64_t budget)
     return one_in(16) ? chance(20000) : budget;
 }
 
+static const char *wrong(struct watched w)
+{
+    static char text[100];
+    if (w.ours == NULL && w.second == NULL)
+        return w.difference;
+    snprintf(text, sizeof text, "our machine: %s; the second one: %s", w.ours != NULL ? w.ours : "well",
+             w.second != NULL ? w.second : "well");
+    return text;
+}
+
 unsigned group_passed(uint64_t count)
 {
-    uint64_t steps = 0, beside = 0, looping = 0, whole = 0;
+    uint64_t steps = 0, looping = 0;
     unsigned failures = 0;
     for (uint64_t i = 0; i < count; i++) {
         struct wish wish = any_wish();
@@ -74,12 +100,11 @@ unsigned group_passed(uint64_t count)
             continue;
         }
         uint64_t budget = chance_budget();
-        struct watched w = watch_segment(&seg, budget, chance_beside(budget));
-        if (w.difference != NULL)
-            failures += failed(i, w.difference);
+        struct watched w = watch_segment(&seg, budget);
+        if (wrong(w) != NULL)
+            failures += failed(i, wrong(w));
         steps += w.steps;
-        beside += w.beside;
-        whole += w.beside == w.steps;
+        note_steps(w.steps);
         looping += w.steps > seg.program.made;
         struct posted posted = both_post(&seg, chance_post_budget(budget), ROW);
         if (posted.difference != NULL)
@@ -87,7 +112,7 @@ unsigned group_passed(uint64_t count)
         else
             stops_posted[posted.stop]++;
     }
-    printf("segments: %llu steps watched, %llu of them beside the cabinet; %llu segments looped, %llu were compared after every step\n",
-           (unsigned long long)steps, (unsigned long long)beside, (unsigned long long)looping, (unsigned long long)whole);
+    printf("segments: %llu steps of both machines watched, %llu segments looped\n", (unsigned long long)steps,
+           (unsigned long long)looping);
     return failures;
 }

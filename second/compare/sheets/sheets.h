@@ -12,6 +12,8 @@ unsigned group_changed(uint64_t count);
 /* passed.c: segments that pass, step by step and by post */
 unsigned group_passed(uint64_t count);
 unsigned stops_missing(void);
+unsigned sizes_missing(void);
+unsigned sizes_all(void);
 /* posts.c: posts that are refused */
 unsigned group_posts(uint64_t count);
 /* stored.c: paper 01's example */

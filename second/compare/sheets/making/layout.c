@@ -39,7 +39,7 @@ static unsigned chance_gap(const struct wish *wish)
 {
     if (one_in(2))
         return 0;
-    return one_in(40) && !wish->small ? below(20000) : below(6);
+    return one_in(16) && !wish->small ? below(20000) : below(6);
 }
 
 /* From `at` on, if it can be: the table begins at a multiple of 64, and S is before the stack. */
