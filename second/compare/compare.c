@@ -1,8 +1,8 @@
 /*
  * compare COUNT SEED [--plant WHAT]: the cabinet beside the second machine, on stored cases and on
  * COUNT cases by chance, and on COUNT/4 sheets and as many segments. Ends with status 0 if they agree
- * everywhere and every reachable pair of operator and stop, every clause of the inspector and every stop
- * of a passed segment was reached.
+ * everywhere and every reachable pair of operator and stop, every cause of a stop, every clause of the
+ * inspector and every stop of a passed segment was reached.
  */
 #include "cases/cases.h"
 #include "machine/plant.h"
@@ -73,7 +73,8 @@ static unsigned compare_sheets(uint64_t eighth)
     return failures + report("neighbouring arrays", neighbours_all(), group_neighbours());
 }
 
-/* What had to be reached. A few cases reach too little, so a plant is not judged by it. */
+/* What had to be reached, a cause in one of 10,000 cases. A few cases reach too little, so a plant is
+   not judged by it. */
 static unsigned report_reached(uint64_t count)
 {
     unsigned missing = report("pairs of operator and stop", pairs_all(), pairs_missing());

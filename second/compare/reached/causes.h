@@ -4,8 +4,7 @@
 
 #include "../machine/operations.h"
 
-/* A push meets the table (12), or else is outside core (11): the second is the next of the first.
-   So is a pop with S outside core that of one at 0, and a base from the word at 64R+7 that of F. */
+/* After a push that meets the table (12) comes the same outside core (11), after a pop at 0 one outside core. */
 enum cause {
     NO_CAUSE, FETCH_OUTSIDE,
     A_POP_AT_0, A_POP_OUTSIDE, THEN_POP_AT_0, THEN_POP_OUTSIDE, B_POP_AT_0, B_POP_OUTSIDE,

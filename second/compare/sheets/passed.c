@@ -4,6 +4,7 @@
 #include "both_sheets.h"
 #include "edges.h"
 #include "making/passing.h"
+#include "watch/ended.h"
 #include "watch/watch.h"
 
 #include <stdio.h>
@@ -76,9 +77,20 @@ static uint64_t chance_post_budget(uint64_t budget)
     return one_in(16) ? chance(20000) : budget;
 }
 
+static unsigned post_segment(uint64_t i, uint64_t budget)
+{
+    run_begins(&seg);
+    struct posted posted = both_post(&seg, budget, ROW);
+    const char *what = posted.difference != NULL ? posted.difference : run_broken(&seg, posted.stop);
+    if (what != NULL)
+        return failed(i, what);
+    stops_posted[posted.stop]++;
+    return 0;
+}
+
 static const char *wrong(struct watched w)
 {
-    static char text[100];
+    static char text[160];
     if (w.ours == NULL && w.second == NULL)
         return w.difference;
     snprintf(text, sizeof text, "our machine: %s; the second one: %s", w.ours != NULL ? w.ours : "well",
@@ -106,11 +118,7 @@ unsigned group_passed(uint64_t count)
         steps += w.steps;
         note_steps(w.steps);
         looping += w.steps > seg.program.made;
-        struct posted posted = both_post(&seg, chance_post_budget(budget), ROW);
-        if (posted.difference != NULL)
-            failures += failed(i, posted.difference);
-        else
-            stops_posted[posted.stop]++;
+        failures += post_segment(i, chance_post_budget(budget));
     }
     printf("segments: %llu steps of both machines watched, %llu segments looped\n", (unsigned long long)steps,
            (unsigned long long)looping);
