@@ -102,7 +102,7 @@ bool cause_possible(enum cause cause, enum operation operation)
 
 void cause_count(enum cause cause, enum operation operation) { reached[cause][operation]++; }
 
-/* How often it was met by all the syllables that can, and at least by each; which of them never did. */
+/* How often it was met by all the syllables that can meet it, and by the rarest; which of them never did. */
 static bool met(enum cause cause, uint64_t least)
 {
     uint64_t all = 0, by_each = UINT64_MAX;
@@ -114,8 +114,8 @@ static bool met(enum cause cause, uint64_t least)
         all += reached[cause][i];
         by_each = reached[cause][i] < by_each ? reached[cause][i] : by_each;
     }
-    printf("%llu: %-74s%8llu, by each of %2u syllables %llu", (unsigned long long)causes[cause].number,
-           causes[cause].words, (unsigned long long)all, syllables, (unsigned long long)by_each);
+    printf("%llu: %-74s%8llu, at least %llu by each of %u", (unsigned long long)causes[cause].number,
+           causes[cause].words, (unsigned long long)all, (unsigned long long)by_each, syllables);
     for (unsigned i = 0; i < OPERATIONS; i++)
         if (cause_possible(cause, (enum operation)i) && reached[cause][i] == 0)
             printf(", not by %s", operation_name((enum operation)i));
