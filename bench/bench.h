@@ -6,7 +6,7 @@
 #include <stdint.h>
 #include <stdio.h>
 
-#include "../second/compare/crossing.h"
+#include "../second/compare/machine/crossing.h"
 
 /* ---- both.c: one state, held in both machines' forms */
 

@@ -1,10 +1,18 @@
 /*
  * compare COUNT SEED [--plant WHAT]: the cabinet beside the second machine, on stored cases and on
  * COUNT cases by chance, and on COUNT/4 sheets and as many segments. Ends with status 0 if they agree
- * everywhere and every reachable pair of operator and stop, every clause of the inspector and every stop
- * of a passed segment was reached.
+ * everywhere and every reachable pair of operator and stop, every cause of a stop, every clause of the
+ * inspector and every stop of a passed segment was reached.
  */
-#include "compare.h"
+#include "cases/cases.h"
+#include "machine/plant.h"
+#include "maker/chance.h"
+#include "reached/causes.h"
+#include "reached/pairs.h"
+#include "sheets/damage/clauses.h"
+#include "sheets/edges.h"
+#include "sheets/sheets.h"
+#include "sheets/watch/controls.h"
 
 #include <stdio.h>
 #include <stdlib.h>
@@ -12,8 +20,10 @@
 
 static int usage(void)
 {
-    fprintf(stderr, "compare COUNT SEED [--plant nothing|number|register|core|completed|"
-                    "verdict|place|watch|post|bounds]\n");
+    fprintf(stderr, "compare COUNT SEED [--plant WHAT], WHAT one of:");
+    for (unsigned i = 0; i < PLANTS; i++)
+        fprintf(stderr, " %s", plant_names[i]);
+    fprintf(stderr, "\n");
     return 2;
 }
 
@@ -27,12 +37,12 @@ static bool read_number(const char *text, uint64_t *number)
 /* One planted difference: the next case that can show it must be found to differ. With `nothing` none may. */
 static bool read_plant(const char *what)
 {
-    static const char *const names[] = {"number", "register", "core",  "completed", "verdict",
-                                        "place",  "watch",    "post", "bounds"};
-    for (unsigned i = 0; i < sizeof names / sizeof *names; i++)
-        if (strcmp(what, names[i]) == 0)
-            planted = (enum planted)(PLANT_NUMBER + i);
-    return planted != PLANT_NOTHING || strcmp(what, "nothing") == 0;
+    for (unsigned i = 0; i < PLANTS; i++)
+        if (strcmp(what, plant_names[i]) == 0) {
+            plant((enum plant)i);
+            return true;
+        }
+    return false;
 }
 
 static unsigned report(const char *group, uint64_t count, unsigned failures)
@@ -48,29 +58,32 @@ static unsigned compare_machines(uint64_t count, uint64_t eighth)
     failures += report("step", count - 4 * eighth, group_step(count - 4 * eighth));
     failures += report("files", eighth, group_files(eighth));
     failures += report("malformed", eighth, group_malformed(eighth));
-    return failures + report("stored cases", cases_all(), group_cases());
+    return failures + report("stored cases", stored_all(), group_stored());
 }
 
 static unsigned compare_sheets(uint64_t eighth)
 {
     unsigned failures = report("sheets", 2 * eighth, group_sheets(2 * eighth));
-    failures += report("sheets changed anywhere", eighth, group_mutations(eighth));
-    failures += report("segments that pass", 2 * eighth, group_segments(2 * eighth));
+    failures += report("sheets changed anywhere", eighth, group_changed(eighth));
+    failures += report("segments that pass", 2 * eighth, group_passed(2 * eighth));
     failures += report("controls of the watch", controls_all(), group_controls());
-    failures += report("posts", eighth, group_post(eighth));
+    failures += report("posts", eighth, group_posts(eighth));
     failures += report("hand-out", eighth, group_hand_out(eighth));
-    failures += report("stored sheets", sheet_cases_all(), group_sheet_cases());
+    failures += report("stored sheets", stored_sheets_all(), group_stored_sheets());
     return failures + report("neighbouring arrays", neighbours_all(), group_neighbours());
 }
 
-/* What had to be reached. A few cases reach too little, so a plant is not judged by it. */
-static unsigned report_reached(void)
+/* What had to be reached, a cause in one of 10,000 cases. A few cases reach too little, so a plant is
+   not judged by it. */
+static unsigned report_reached(uint64_t count)
 {
     unsigned missing = report("pairs of operator and stop", pairs_all(), pairs_missing());
+    missing += report("causes of a stop", causes_all(), causes_missing(count / 10000));
     missing += report("clauses of the inspector", clauses_all(), clauses_missing());
     missing += report("numbers with enough places", 6, places_missing());
     missing += report("bounds that pass", edges_all(), edges_missing());
-    return missing + report("stops of segments", 10, stops_missing());
+    missing += report("stops of segments", 10, stops_missing());
+    return missing + report("sizes of core, watched", sizes_all(), sizes_missing());
 }
 
 int main(int argc, char **argv)
@@ -84,6 +97,6 @@ int main(int argc, char **argv)
     uint64_t eighth = count / 8;
     chance_seed(seed);
     unsigned failures = compare_machines(count, eighth) + compare_sheets(eighth);
-    unsigned missing = report_reached();
+    unsigned missing = report_reached(count);
     return failures + (differences_only ? 0 : missing) != 0;
 }
