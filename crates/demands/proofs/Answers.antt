@@ -15,8 +15,7 @@ use Rattle.inspector.specs.Cells.{arrayFits, unfit}
 use Rattle.inspector.specs.Turns.{turnOf}
 use Rattle.inspector.specs.Scan.{shapeAt, broken, syllableAt, closes, breaksAt}
 use Rattle.inspector.specs.Targets.{missesTarget}
-use Rattle.inspector.specs.Verdicts.{given, verdictOf}
-use Rattle.inspector.specs.Rules.{rules}
+use Rattle.inspector.specs.Verdicts.{given, verdictOf, rules}
 use Rattle.demands.specs.Rules.{AllKept, none, kept}
 use Rattle.demands.proofs.Tests.{shows-and, shows-lt, shows-le, shows-eq, shows, denies-or, denies-and, denies-lt, denies, denies-not}
 use Rattle.demands.proofs.Exact.{zero-kept}

@@ -8,8 +8,7 @@ use native.Mathlib.Omega.{arith}
 use borrow.Author.Tests.{eqb-true, eqb-false}
 use lib.Dec.{eqb}
 use Rattle.inspector.specs.declared.verdict.Verdict.{Verdict}
-use Rattle.inspector.specs.Rules.{Rule, rules}
-use Rattle.inspector.specs.Verdicts.{Found, at, nowhere, lowest, given, blamed, answerOf, verdictOf}
+use Rattle.inspector.specs.Verdicts.{Found, at, nowhere, lowest, given, blamed, answerOf, verdictOf, Rule, rules}
 use Rattle.inspector.proofs.Answers.{none-found}
 use Rattle.demands.specs.Rules.{Kept, BrokenAt, AllKept, none, kept, Blames, this, later}
 

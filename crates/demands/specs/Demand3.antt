@@ -6,8 +6,7 @@ use mathlib.Core.Path.{_≡_}
 use mathlib.Core.List.{List}
 use Rattle.machine.specs.States.{State}
 use Rattle.machine.specs.Runs.{runOf}
-use Rattle.inspector.specs.Rules.{rules}
-use Rattle.inspector.specs.Verdicts.{given, verdictOf}
+use Rattle.inspector.specs.Verdicts.{given, verdictOf, rules}
 use Rattle.demands.specs.Stays.{startOf, Reaches, Stays}
 use Rattle.demands.specs.Leaves.{Leaves}
 use Rattle.demands.specs.Rules.{AllKept, Blames}

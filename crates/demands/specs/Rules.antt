@@ -3,7 +3,7 @@ use Prim.Native.Nat.{ℕ, _<_}
 use mathlib.Core.Path.{_≡_}
 use mathlib.Core.Bool.{true, false}
 use mathlib.Core.List.{List, [], _∷_}
-use Rattle.inspector.specs.Rules.{Rule}
+use Rattle.inspector.specs.Verdicts.{Rule}
 
 -- A rule that is broken nowhere; one that is broken at p and at no lower place.
 abbrev pub Kept : Rule → Type 0

@@ -4,7 +4,6 @@ pub mod Cells
 pub mod Turns
 pub mod Scan
 pub mod Targets
-pub mod Rules
 pub mod Verdicts
 pub mod ForCode
 pub mod ForTheorems

@@ -5,7 +5,7 @@ use lib.Dec.{eqb}
 use lib.IntN.{ℤ, natAbs, _+ℤ_, _-ℤ_, _*ℤ_}
 use lib.Signed.{ltZ, leZ, quotZ, remZ}
 use Rattle.machine.specs.declared.outcome.Cause.the-variants.{Unwhole, ZeroDivisor}
-use Rattle.machine.specs.Outcomes.{Res, on, halt, _>>=_}
+use Rattle.machine.specs.Outcomes.{Res, on, halt, _>>=_, if_then_else_}
 use Rattle.machine.specs.States.{State, emptyA, fillB}
 use Rattle.machine.specs.Stack.{bothFullOf}
 use Rattle.word.specs.Field.{oneOf}
@@ -14,7 +14,6 @@ use Rattle.syllable.specs.declared.Arithmetic.{Arithmetic}
 use Rattle.syllable.specs.declared.Arithmetic.the-variants.{Add, Sub, Mul, Idv, Rdv}
 use Rattle.syllable.specs.declared.Relation.{Relation}
 use Rattle.syllable.specs.declared.Relation.the-variants.{Gtr, Geq, Eql, Leq, Lss, Neq}
-use Rattle.word.specs.Choices.{if_then_else_}
 
 -- The one number that these two give back is 20.
 abbrev pub orUnwhole : {A : Type 0} → OrNumber A → Res A

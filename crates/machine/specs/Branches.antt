@@ -3,12 +3,11 @@ use Prim.Native.Nat.{ℕ, _+_, _-_, _*_, _/_, _%_}
 use mathlib.Core.Bool.{Bool}
 use lib.Dec.{ltb}
 use Rattle.machine.specs.declared.outcome.Cause.the-variants.{Address, Presence}
-use Rattle.machine.specs.Outcomes.{Res, on, halt, _>>=_}
+use Rattle.machine.specs.Outcomes.{Res, on, halt, _>>=_, if_then_else_}
 use Rattle.machine.specs.States.{State, emptyA, emptyB, withCL}
 use Rattle.machine.specs.Stack.{aFullOf, bothFullOf}
 use Rattle.word.specs.Field.{field, bit}
 use Rattle.word.specs.Layout.{flagOf, presenceOf, addressOf}
-use Rattle.word.specs.Choices.{if_then_else_}
 
 -- "syllables forward or back from the next one, which after 131,071 is 0; a target before syllable 0 or after 131,071: 11."
 -- n is the number of the next syllable, to which the step has advanced.

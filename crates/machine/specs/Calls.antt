@@ -4,7 +4,7 @@ use mathlib.Core.Bool.{Bool, true, false, not, _&&_}
 use lib.Dec.{eqb, ltb}
 use lib.IntN.{ℤ, pos, negsuc}
 use Rattle.machine.specs.declared.outcome.Cause.the-variants.{Presence, Flag, Index, Unbuilt}
-use Rattle.machine.specs.Outcomes.{Res, on, halt, _>>=_}
+use Rattle.machine.specs.Outcomes.{Res, on, halt, _>>=_, if_then_else_}
 use Rattle.machine.specs.States.{State, fillA, emptyA, emptyB, withF, withCL, withSalf, withMsff, wordAt}
 use Rattle.machine.specs.Memory.{readOf, kAddressOf}
 use Rattle.machine.specs.Stack.{pushOf, pushBOf, aEmptyOf, bFullOf}
@@ -15,7 +15,6 @@ use Rattle.word.specs.Addresses.{sumOf}
 use Rattle.word.specs.Kinds.{kindOf}
 use Rattle.word.specs.declared.kinds.Kind.{Kind}
 use Rattle.word.specs.declared.kinds.Kind.the-variants.{Operand, Data, Program, Control}
-use Rattle.word.specs.Choices.{if_then_else_}
 
 -- "below 0 or at least size: 15; -0 is 0"
 unfoldable pub withinOf : ℤ → ℕ → Res ℕ

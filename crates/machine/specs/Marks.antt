@@ -4,12 +4,11 @@ use mathlib.Core.Bool.{true, not, _&&_}
 use mathlib.Core.List.{List}
 use lib.Dec.{eqb}
 use Rattle.machine.specs.declared.outcome.Cause.the-variants.{Address, Flag}
-use Rattle.machine.specs.Outcomes.{Res, on, halt, _>>=_}
+use Rattle.machine.specs.Outcomes.{Res, on, halt, _>>=_, if_then_else_}
 use Rattle.machine.specs.States.{State, emptyA, emptyB, withS, withF, withCL, withR, withSalf, withMsff}
 use Rattle.machine.specs.Memory.{readOf, storeOf}
 use Rattle.machine.specs.Stack.{pushOf, pushAOf, pushBOf}
 use Rattle.word.specs.Layout.{flagOf, fFieldOf, mscwROf, mscwMsffOf, mscwSalfOf, mscwOf, rcwLOf, rcwCOf}
-use Rattle.word.specs.Choices.{if_then_else_}
 use Rattle.word.specs.Addresses.{cellAddress}
 
 -- "if SALF on and MSFF off, write that MSCW also at 64R+7 (11)"

@@ -4,10 +4,9 @@ use mathlib.Core.List.{List}
 use lib.Dec.{eqb, ltb}
 use lib.ListN.{length, getD}
 use Rattle.machine.specs.declared.outcome.Cause.the-variants.{Address}
-use Rattle.machine.specs.Outcomes.{Res, on, halt, _>>=_}
+use Rattle.machine.specs.Outcomes.{Res, on, halt, _>>=_, if_then_else_}
 use Rattle.machine.specs.States.{State, store}
 use Rattle.word.specs.Layout.{fFieldOf}
-use Rattle.word.specs.Choices.{if_then_else_}
 use Rattle.word.specs.Addresses.{cellAddress}
 
 -- "Below 0 or not below core length: 11. This holds for every reference."

@@ -2,6 +2,7 @@
 use Prim.Native.Nat.{ℕ}
 use Rattle.machine.specs.declared.outcome.Cause.{Cause}
 use Rattle.machine.specs.declared.outcome.Cause.the-variants.{Address, Overflow, Presence, Flag, Index, Unbuilt, Unwhole, ZeroDivisor}
+unfoldable pub use Rattle.word.specs.Choices.{if_then_else_}
 
 infixl 20 _>>=_
 pub data Res (A : Type 0) : Type 0 where

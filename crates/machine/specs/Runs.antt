@@ -4,10 +4,9 @@ use mathlib.Core.List.{List}
 use lib.Dec.{eqb, leb}
 use Rattle.machine.specs.declared.outcome.Registers.{Registers}
 use Rattle.machine.specs.declared.outcome.Ran.{Ran}
-use Rattle.machine.specs.Outcomes.{numberOf}
+use Rattle.machine.specs.Outcomes.{numberOf, if_then_else_}
 use Rattle.machine.specs.States.{State, stateOf}
 use Rattle.machine.specs.Steps.{Ended, next, communicated, stopped, executeOf, refusalOf}
-use Rattle.word.specs.Choices.{if_then_else_}
 
 -- "A run answers the stop, the syllables completed (COM counts) and the state"
 pub record Run : Type 0 where

@@ -4,10 +4,9 @@ use mathlib.Core.List.{List, [], _∷_, _++_}
 use lib.Dec.{eqb}
 use lib.ListN.{length, take}
 use Rattle.machine.specs.declared.outcome.Cause.the-variants.{Address, Overflow}
-use Rattle.machine.specs.Outcomes.{Res, on, halt, _>>=_}
+use Rattle.machine.specs.Outcomes.{Res, on, halt, _>>=_, if_then_else_}
 use Rattle.machine.specs.States.{State, fillA, emptyA, fillB, emptyB, withS, store}
 use Rattle.machine.specs.Memory.{inCore, readOf}
-use Rattle.word.specs.Choices.{if_then_else_}
 
 -- "The stack is core up to S, then B if full, then A if full. It grows upward." The bottom first.
 unfoldable pub stackOf : State → List ℕ

@@ -7,7 +7,7 @@ use Rattle.machine.specs.declared.outcome.Cause.{Cause}
 use Rattle.machine.specs.declared.outcome.Cause.the-variants.{Unbuilt}
 use Rattle.machine.specs.declared.outcome.Registers.{Registers}
 use Rattle.machine.specs.declared.outcome.Answer.{Answer}
-use Rattle.machine.specs.Outcomes.{Res, on, halt, numberOf}
+use Rattle.machine.specs.Outcomes.{Res, on, halt, numberOf, if_then_else_}
 use Rattle.machine.specs.States.{State, stateOf, withCL}
 use Rattle.machine.specs.Memory.{readOf}
 use Rattle.machine.specs.Arithmetics.{twoOf, reckonOf, relateOf}
@@ -27,7 +27,6 @@ use Rattle.syllable.specs.declared.Syllable.the-variants.{Litc, Opdc, Desc, Ope
 use Rattle.word.specs.Core.{lengthFits, wordsFit}
 use Rattle.syllable.specs.Decoding.{decodeOf}
 use Rattle.syllable.specs.Positions.{syllableOf, advanceOf}
-use Rattle.word.specs.Choices.{if_then_else_}
 
 -- A syllable goes on, communicates (it completes, and the machine stops 17), or stops for a cause.
 pub data Ended : Type 0 where
@@ -44,7 +43,6 @@ abbrev pub last : Res State → Ended
 last (on st) = communicated st
 last (halt n) = stopped n
 
--- The groups of logic and branches: "two" and "one"; forward and back.
 abbrev pub logicAs : LogicGroup → State → Res State
 logicAs Lnd st = twoWordsOf lndOf st
 logicAs Lor st = twoWordsOf lorOf st
@@ -101,8 +99,6 @@ fetchedBy (halt n) st = stopped n
 unfoldable pub executeOf : State → Ended
 executeOf st = fetchedBy (readOf (st .core) (st .regs .c)) st
 
--- ---- the checks
-
 -- "each full or empty; empty holds 0"
 abbrev pub holdsWord : Bool → ℕ → Bool
 holdsWord full x = if full then ltb x (2 ^ 48) else eqb x 0
@@ -119,8 +115,6 @@ unfoldable pub refusalOf : List ℕ → Registers → ℕ
 refusalOf core g =
     if lengthFits core then (if wordsFit core then (if registersFit g then 0 else 3) else 2) else 1
 
--- ---- the step
-
 -- A number given back, the core and the registers.
 pub record Stepped : Type 0 where
   pub number : ℕ
@@ -133,7 +127,6 @@ endedAs (next u) st = record { number = 0; core = u .core; regs = u .regs }
 endedAs (communicated u) st = record { number = 17; core = u .core; regs = u .regs }
 endedAs (stopped n) st = record { number = numberOf n; core = st .core; regs = st .regs }
 
--- "Order: 1, 2, 3, fetch (11), then as written above."
 unfoldable pub stepOf : List ℕ → Registers → Stepped
 stepOf core g =
     if eqb (refusalOf core g) 0 then endedAs (executeOf (stateOf core g)) (stateOf core g)

@@ -2,13 +2,12 @@
 use Prim.Native.Nat.{ℕ}
 use lib.ListN.{length}
 use Rattle.machine.specs.declared.outcome.Cause.the-variants.{Presence}
-use Rattle.machine.specs.Outcomes.{Res, on, halt, _>>=_}
+use Rattle.machine.specs.Outcomes.{Res, on, halt, _>>=_, if_then_else_}
 use Rattle.machine.specs.States.{State, fillA, emptyA, emptyB, wordAt, store}
 use Rattle.machine.specs.Memory.{inCore, storeOf, kAddressOf}
 use Rattle.machine.specs.Stack.{aEmptyOf, aFullOf, bothFullOf}
 use Rattle.word.specs.Field.{field}
 use Rattle.word.specs.Layout.{flagOf, presenceOf, addressOf}
-use Rattle.word.specs.Choices.{if_then_else_}
 use Rattle.word.specs.Addresses.{cellAddress}
 
 -- "LITC: A empty, A:=k."

@@ -14,9 +14,8 @@ use Rattle.inspector.specs.declared.shapes.Effect.{Effect}
 use Rattle.inspector.specs.declared.shapes.Effect.the-variants.{Drops, Puts, Swaps, Breaks}
 use Rattle.inspector.specs.declared.shapes.Scanned.{Scanned}
 use Rattle.inspector.specs.declared.shapes.Scanned.the-variants.{Height, Broken}
-use Rattle.inspector.specs.Verdicts.{Found, at, nowhere, lowest, answerOf}
+use Rattle.inspector.specs.Verdicts.{Found, at, nowhere, lowest, answerOf, rules}
 use Rattle.sheet.specs.Sheets.{entries, codeOf, codeWordsOf, roomOf, tableOf, cellOf}
-use Rattle.inspector.specs.Rules.{rules}
 use Rattle.inspector.specs.Scan.{Item, literal, number, place, Shape, Left, leaves, breaks, exchanged, writable, within, shapeAt, breaksAt}
 use Rattle.inspector.specs.Targets.{isEmpty, distance}
 use Rattle.machine.specs.Outcomes.{Res, on, halt}
