@@ -9,7 +9,7 @@ use borrow.Author.Tests.{eqb-true, eqb-false}
 use lib.Dec.{eqb}
 use Rattle.inspector.specs.declared.verdict.Verdict.{Verdict}
 use Rattle.inspector.specs.Verdicts.{Found, at, nowhere, lowest, given, blamed, answerOf, verdictOf, Rule, rules}
-use Rattle.inspector.proofs.Answers.{none-found}
+use Rattle.inspector.proofs.Searches.{none-found}
 use Rattle.demands.specs.Rules.{Kept, BrokenAt, AllKept, none, kept, Blames, this, later}
 
 -- What a search finds.
@@ -147,10 +147,6 @@ number-blames core sheet n p h e = of (told (rules core sheet) n p (counted core
 pub blames-number : (core sheet : List ℕ) (n p : ℕ) → Blames (rules core sheet) n p → verdictOf core sheet ≡ given n p
 unfolding verdictOf
 blames-number core sheet n p b = blames-answer b
-
--- The answer is 0 at 0 or blames a rule: there is no third.
-pub answered : (core sheet : List ℕ) → 0 < verdictOf core sheet .number → Blames (rules core sheet) (verdictOf core sheet .number) (verdictOf core sheet .place)
-answered core sheet h = number-blames core sheet (verdictOf core sheet .number) (verdictOf core sheet .place) h refl
 
 -- An answer of 0 is at place 0.
 pub zero-given : (core sheet : List ℕ) → verdictOf core sheet .number ≡ 0 → verdictOf core sheet ≡ given 0 0

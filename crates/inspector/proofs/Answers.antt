@@ -1,4 +1,4 @@
--- The answer, rule by rule, and what a search that found nothing says.
+-- The answer, rule by rule.
 use Prim.Native.Nat.{ℕ, zero, suc, _+_, _*_, _%_, _≤_, _<_}
 use mathlib.Core.Path.{_≡_, refl, sym, _∙_, ap, subst}
 use mathlib.Core.Bool.{Bool, true, false, not, _&&_, false≢true}
@@ -13,6 +13,7 @@ use Rattle.inspector.specs.declared.verdict.Find.the-variants.{At, Nowhe
 use Rattle.sheet.specs.Sheets.{Entry, entryAt, entries, codeWordsOf, roomOf, tableOf}
 use Rattle.inspector.specs.Verdicts.{Found, at, nowhere, lowest, given, blamed}
 use Rattle.inspector.specs.ForCode.Forms.{foundOf, SheetRanged}
+use Rattle.inspector.proofs.Searches.{none-found}
 use Rattle.inspector.specs.Records.{ranged, recordGood, sheetFits}
 
 pub blames : (n : ℕ) {p : ℕ} {f : Found} {r : Find} (rest : Verdict) → foundOf r ≡ f → r ≡ At p → given n p ≡ blamed n f rest
@@ -27,25 +28,6 @@ refuses n rest e t = sym (ap (λ (x : Bool). blamed n (lowest (λ (i : ℕ). not
 
 pub admits : (n : ℕ) {b r : Bool} {v rest : Verdict} → r ≡ b → r ≡ true → v ≡ rest → v ≡ blamed n (lowest (λ (i : ℕ). not b) 1 0) rest
 admits n {rest = rest} e t g = g ∙ sym (ap (λ (x : Bool). blamed n (lowest (λ (i : ℕ). not x) 1 0) rest) (sym e ∙ t))
-
-at-not-nowhere : {A : Type 0} {p : ℕ} → at p ≡ nowhere → A
-at-not-nowhere e = absurd (clash e)
-  where
-    clash : {p : ℕ} → at p ≡ nowhere → ⊥
-    clash e = let z : _≡_ {A = ℕ} 0 1 = cc in omega arith
-
--- A search that found nothing passed every place.
-pub none-found : (p : ℕ → Bool) (n i : ℕ) → lowest p n i ≡ nowhere → (j : ℕ) → i ≤ j → j < i + n → p j ≡ false
-none-found p zero i e j h l = absurd (none h l)
-  where
-    none : i ≤ j → j < i + 0 → ⊥
-    none h l = omega arith
-none-found p (suc n) i e j h l = by (p i) (eqb j i) refl refl e (λ f k. none-found p n (suc i) f j k (omega arith))
-  where
-    by : (b c : Bool) → p i ≡ b → eqb j i ≡ c → elim b [ true ↦ at i | false ↦ lowest p n (suc i) ] ≡ nowhere → (lowest p n (suc i) ≡ nowhere → suc i ≤ j → p j ≡ false) → p j ≡ false
-    by true c f g e k = at-not-nowhere e
-    by false true f g e k = ap p (eqb-true j i g) ∙ f
-    by false false f g e k = k e (omega (arith, eqb-false j i g))
 
 pub first-of : (a b : Bool) → (a && b) ≡ true → a ≡ true
 first-of true b e = refl
