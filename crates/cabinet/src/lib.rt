@@ -1,4 +1,6 @@
 // The cabinet's plugs: what a host program in C may call, over numbers and six-byte words. include/fifty_five.h tells it to C.
+#![tactic(auto)]
+
 mod arrays;
 mod inspections;
 mod lengths;

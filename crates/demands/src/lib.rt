@@ -1,1 +1,3 @@
 // The statements of the demands, as theorems over the definitions.
+#![tactic(auto)]
+

@@ -1,4 +1,6 @@
 // The words an array cell names, handed out as that stretch of the core itself.
+#![tactic(auto)]
+
 ghost use Rattle.std.specs.Prelude.{◌≡◌};
 ghost use Rattle.handout.specs.HandOut.{hand_out_number, stretch_start, stretch_count, HandedOut};
 

@@ -1,4 +1,6 @@
 // The inspector of sheets.
+#![tactic(auto)]
+
 mod areas;
 mod cells;
 mod effects;

@@ -1,4 +1,6 @@
 // What is lent: the panel's register set, moved on where it stands; the stretch of core that an array cell names.
+#![tactic(auto)]
+
 mod moves;
 mod say;
 mod stretches;

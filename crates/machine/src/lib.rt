@@ -1,4 +1,6 @@
 // The word-mode machine of paper 01: registers, adjustments, addresses, calls, operators, step, run.
+#![tactic(auto)]
+
 mod arithmetic;
 mod bits;
 mod branches;

@@ -1,5 +1,7 @@
 // Runs the manual's own examples of syllables and words, and writes a line for each.
 // Syllables, words and fields are octal; the values of the octades are decimal, as the manual prints them.
+#![tactic(auto)]
+
 mod say;
 mod syllables;
 mod words;

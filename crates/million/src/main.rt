@@ -1,4 +1,6 @@
 // Runs a loop for a million syllables, and writes the line of the trial program.
+#![tactic(auto)]
+
 use libc::STDOUT_FILENO;
 use trial::Outcome;
 

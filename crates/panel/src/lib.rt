@@ -1,4 +1,6 @@
 // The panel: its set of registers is moved on by one syllable where it stands.
+#![tactic(auto)]
+
 ghost use Rattle.std.specs.Prelude.{◌≡◌};
 ghost use Rattle.machine.specs.Steps.{step_of, answered};
 

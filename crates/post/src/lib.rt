@@ -1,4 +1,6 @@
 // Posting: a segment is inspected and, where it passed, run from the sheet's start.
+#![tactic(auto)]
+
 ghost use Rattle.std.specs.Prelude.{◌≡◌, List, ℕ, ◌+◌, ◌*◌, ◌<◌, get_or};
 ghost use Rattle.machine.specs.States.{no_registers};
 ghost use Rattle.demands.specs.Stays.{start_of};

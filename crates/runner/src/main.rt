@@ -1,4 +1,6 @@
 // Inspects a segment, a core file and its sheet, or posts it: inspects, runs it where it passed, and puts the core back by a rename.
+#![tactic(auto)]
+
 mod files;
 mod looks;
 mod options;

@@ -1,4 +1,6 @@
 // The paper's trial program: runs the core file on standard input, and writes what came of it in one line.
+#![tactic(auto)]
+
 ghost use Rattle.std.specs.Prelude.{◌≤◌};
 
 use libc::{STDIN_FILENO, STDOUT_FILENO};

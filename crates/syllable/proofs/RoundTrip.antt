@@ -1,7 +1,7 @@
 -- Encoding and decoding undo each other: each of the 4,096 syllables is read as exactly one proper case.
 -- Assumes nothing.
 use mathlib.Core.Path.{◌≡◌, refl, ◌∙◌, sym, ap, subst⁻¹}
-use mathlib.Core.List.{List, ◌∷◌, map, Memᴰ}
+use mathlib.Core.List.{List, [], ◌∷◌, map, Memᴰ}
 use Prim.Native.Nat.{ℕ, zero, suc, ◌+◌, ◌*◌, ◌/◌, ◌%◌, ◌<◌}
 use native.Mathlib.Nat.{add-zero}
 use native.Mathlib.Omega.{arith}
@@ -25,6 +25,7 @@ unfolding decode_of
 listed_back = refl
 
 back_at : (os : List Operator) {o : Operator} → map back os ≡ map Operates os → Memᴰ o os → back o ≡ Operates o
+back_at [] e m = elim m [ ]
 back_at (x ∷ os) e (Memᴰ.head s) =
     let b : back x ≡ Operates x = cc in
     rw s b

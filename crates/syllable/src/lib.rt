@@ -1,5 +1,7 @@
 // Syllables, as paper 01 reads them: four in a word, each a literal, an operand call, a descriptor call or an operator.
 // A syllable has 12 bits: a larger number is taken modulo 4,096, and a number k of ten bits modulo 1,024.
+#![tactic(auto)]
+
 mod table;
 
 ghost use Rattle.std.specs.Prelude.{◌≡◌, ◌%◌};

@@ -9,25 +9,25 @@ use lib.Dec.{ltb, leb}
 use lib.ListN.{length, take, drop, get_or, length-drop, take-append-drop, get_or-eq_default}
 use lib.Seq.{length-take-le, take_at, drop_at, get_or-take, get_or-drop}
 use Rattle.word.specs.Core.{length_fits, words_fit}
-use Rattle.word.specs.Digits.{digits, numeral, below}
+use Rattle.word.specs.Digits.{digits, numeral, Below}
 use Rattle.word.proofs.Places.{digits_length, digits_back, numeral_back, numeral_lt}
 use Rattle.tape.specs.Files.{words_of, bytes_of}
 
--- ---- bytes below 256
+-- ---- bytes Below 256
 
-below_take : (n : ℕ) (bytes : List ℕ) → n ≤ length bytes → below 256 bytes → below 256 (take n bytes)
+below_take : (n : ℕ) (bytes : List ℕ) → n ≤ length bytes → Below 256 bytes → Below 256 (take n bytes)
 below_take n bytes l b i = by (ltb i n) refl
   where
     by : (t : Bool) → ltb i n ≡ t → get_or (take n bytes) i 0 < 256
     by true e = rw (get_or-take n bytes i 0 (ltb-true i n e)) (b i)
     by false e = rw (get_or-eq_default (take n bytes) 0 {n = i} (omega (arith, length-take-le n bytes l, ltb-false i n e))) (omega arith)
 
-below_drop : (n : ℕ) (bytes : List ℕ) → below 256 bytes → below 256 (drop n bytes)
+below_drop : (n : ℕ) (bytes : List ℕ) → Below 256 bytes → Below 256 (drop n bytes)
 below_drop n bytes b i = rw (get_or-drop n bytes i 0) (b (n + i))
 
 -- ---- the words of a file, and the bytes of a core
 
-pub words_back : (n : ℕ) (bytes : List ℕ) → below 256 bytes → length bytes ≡ 6 * n → bytes_of (words_of n bytes) ≡ bytes
+pub words_back : (n : ℕ) (bytes : List ℕ) → Below 256 bytes → length bytes ≡ 6 * n → bytes_of (words_of n bytes) ≡ bytes
 unfolding words_of bytes_of
 words_back zero [] b l = refl
 words_back zero (d ∷ ds) b l = absurd (omega arith)
@@ -39,7 +39,7 @@ words_back (suc n) bytes b l =
     words_back n (drop 6 bytes) (below_drop 6 bytes b) (length-drop 6 bytes ∙ omega arith) in
     rw (first, rest) (take-append-drop 6 bytes)
 
-pub words_fit_is : (n : ℕ) (bytes : List ℕ) → below 256 bytes → 6 * n ≤ length bytes → words_fit (words_of n bytes) ≡ true
+pub words_fit_is : (n : ℕ) (bytes : List ℕ) → Below 256 bytes → 6 * n ≤ length bytes → words_fit (words_of n bytes) ≡ true
 unfolding words_of words_fit
 words_fit_is zero bytes b l = refl
 words_fit_is (suc n) bytes b l =

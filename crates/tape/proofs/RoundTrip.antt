@@ -6,7 +6,7 @@ use mathlib.Core.List.{List}
 use native.Mathlib.Omega.{arith}
 use lib.ListN.{length}
 use Rattle.word.specs.Core.{length_fits, words_fit}
-use Rattle.word.specs.Digits.{below}
+use Rattle.word.specs.Digits.{Below}
 use Rattle.tape.specs.Files.{words_of, bytes_of, read_number_of, read_file_of, write_number_of, write_file_of, FileRead, FileWritten}
 use Rattle.tape.proofs.Backs.{words_back, words_fit_is, bytes_back, length_fits_is, length_in}
 use Rattle.tape.proofs.Numbers.{Whole, Writable, read_whole, whole_read, write_fits, write_writable}
@@ -14,7 +14,7 @@ use Rattle.tape.proofs.Words.{words_length, read_yes}
 use Rattle.tape.proofs.Bytes.{bytes_length, write_yes}
 
 -- The words of an accepted file say its bytes.
-pub file_back : (bytes : List ℕ) (n : ℕ) → below 256 bytes → read_number_of bytes n ≡ 0 → bytes_of (words_of n bytes) ≡ bytes
+pub file_back : (bytes : List ℕ) (n : ℕ) → Below 256 bytes → read_number_of bytes n ≡ 0 → bytes_of (words_of n bytes) ≡ bytes
 file_back bytes n b z = words_back n bytes b (read_whole bytes n z).exact
 
 -- The bytes of a core that fits say its words.
@@ -22,7 +22,7 @@ pub core_back : (core : List ℕ) → words_fit core ≡ true → words_of (leng
 core_back core f = bytes_back core f
 
 -- An accepted file, read and written, is the same file.
-pub file_same : (bytes core room : List ℕ) → below 256 bytes → read_number_of bytes (length core) ≡ 0 → length room ≡ length bytes
+pub file_same : (bytes core room : List ℕ) → Below 256 bytes → read_number_of bytes (length core) ≡ 0 → length room ≡ length bytes
     → (write_number_of (read_file_of bytes core) (length room) ≡ 0) × (write_file_of (read_file_of bytes core) room ≡ bytes)
 file_same bytes core room b z l =
     let w : Whole bytes (length core) = read_whole bytes (length core) z in
@@ -50,7 +50,7 @@ core_same core room old lf wf l m =
     (number, rw written back, rw written (sym (read_yes (bytes_of core) old back refl) ∙ rw m (core_back core wf)))
 
 -- The same of any two calls that meet their contracts, one after the other.
-pub file_same_calls : (bytes old core room new : List ℕ) (r s : ℕ) → below 256 bytes → FileRead bytes old core r → r ≡ 0 → length room ≡ length bytes → FileWritten core room new s
+pub file_same_calls : (bytes old core room new : List ℕ) (r s : ℕ) → Below 256 bytes → FileRead bytes old core r → r ≡ 0 → length room ≡ length bytes → FileWritten core room new s
     → (s ≡ 0) × (new ≡ bytes)
 file_same_calls bytes old core room new r s b p z l q =
     let same : (write_number_of (read_file_of bytes old) (length room) ≡ 0) × (write_file_of (read_file_of bytes old) room ≡ bytes) = file_same bytes old room b (sym p.number ∙ z) l in

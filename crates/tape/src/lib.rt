@@ -1,4 +1,6 @@
 // Core files: six-byte records, highest byte first, no header.
+#![tactic(auto)]
+
 mod reading;
 mod writing;
 

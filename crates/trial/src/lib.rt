@@ -1,4 +1,6 @@
 // The paper's trial program `runone`: what it answers of its input, and the line that it writes.
+#![tactic(auto)]
+
 mod lines;
 mod trials;
 

@@ -1,4 +1,6 @@
 // What the runner of files decides beside the machine and the inspector.
+#![tactic(auto)]
+
 mod commands;
 mod names;
 mod numbers;

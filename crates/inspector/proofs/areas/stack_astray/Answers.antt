@@ -1,0 +1,6 @@
+use Rattle.inspector.specs.Areas.{astray}
+use Rattle.inspector.proofs.areas.stack_astray.Goals as goal
+
+pub returns : goal.returns
+unfolding astray
+returns c = cc

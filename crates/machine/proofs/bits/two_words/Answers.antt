@@ -1,0 +1,14 @@
+use Rattle.machine.proofs.Turns.{puts}
+use Rattle.machine.specs.States.{empty_a, fill_b}
+use Rattle.machine.specs.ForCode.Answers.{went_of}
+use Rattle.machine.specs.Bits.{two_words_of}
+use Rattle.machine.proofs.Calculus.{known, is_given, is_cut}
+use Rattle.machine.proofs.bits.two_words.Goals as goal
+
+pub returns-in-Stop : goal.returns-in-Stop
+unfolding two_words_of
+returns-in-Stop c = is_cut _ (known (went_of _) c.both_full.ensures c.in-Stop.is)
+
+pub returns : goal.returns
+unfolding two_words_of
+returns c = is_given _ (known (went_of _) c.both_full.ensures c.in-On.is) (puts (λ u w. empty_a (fill_b u w)) _ c.in-On.h c.joined-w.ensures)

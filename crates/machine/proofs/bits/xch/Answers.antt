@@ -1,0 +1,13 @@
+use Rattle.machine.specs.ForCode.Answers.{went_of}
+use Rattle.machine.specs.Bits.{xch_of}
+use mathlib.Core.Path.{refl}
+use Rattle.machine.proofs.Calculus.{known, is_given, is_cut}
+use Rattle.machine.proofs.bits.xch.Goals as goal
+
+pub returns-in-Stop : goal.returns-in-Stop
+unfolding xch_of
+returns-in-Stop c = is_cut _ (known (went_of _) c.both_full.ensures c.in-Stop.is)
+
+pub returns : goal.returns
+unfolding xch_of
+returns c = is_given _ (known (went_of _) c.both_full.ensures c.in-On.is) refl

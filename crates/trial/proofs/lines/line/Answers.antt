@@ -1,0 +1,9 @@
+use Rattle.trial.proofs.Texts.{line_refused, line_ended}
+use native.Mathlib.Omega.{arith}
+use Rattle.trial.proofs.lines.line.Goals as goal
+
+pub returns-in-Refused : goal.returns-in-Refused
+returns-in-Refused c = (line_refused c.in-Refused.is c.decimal.ensures.0, omega (arith, c.decimal.ensures.1))
+
+pub returns-in-Ended : goal.returns-in-Ended
+returns-in-Ended c = (line_ended c.in-Ended.is c.sum_line.ensures.0, c.sum_line.ensures.1)
