@@ -1,5 +1,5 @@
 pub mod Choices
-pub mod FromText
+pub mod FromTexts
 pub mod Lined
 pub mod OneAnswer
 pub mod Signs

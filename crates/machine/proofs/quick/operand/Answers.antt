@@ -16,7 +16,7 @@ pub flagged-requires : goal.flagged-requires
 flagged-requires c = sym c.flag.ensures ∙ c.if-flag.true
 
 pub returns-then-flag : goal.returns-then-flag
-returns-then-flag c = quick_as _ _ c.flagged.result (call_raised _ _ _ _ _ _ c.if-t.false (known spot_says c.k_address.ensures c.in-At.is)) (c.flagged.ensures _ _)
+returns-then-flag c = quick_as c.args.core.now c.args.g c.flagged.result (call_raised _ _ _ _ _ _ c.if-t.false (known spot_says c.k_address.ensures c.in-At.is)) (c.flagged.ensures c.args.g _)
 
 pub returns : goal.returns
-returns c = quick_as _ _ c.filled.result (call_operand _ _ _ _ _ _ c.if-t.false (known spot_says c.k_address.ensures c.in-At.is) (sym c.flag.ensures ∙ c.if-flag.false)) (c.filled.ensures _ _)
+returns c = quick_as c.args.core.now c.args.g c.filled.result (call_operand _ _ _ _ _ _ c.if-t.false (known spot_says c.k_address.ensures c.in-At.is) (sym c.flag.ensures ∙ c.if-flag.false)) (c.filled.ensures c.args.core.now c.args.g)

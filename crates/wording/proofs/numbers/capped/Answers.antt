@@ -1,4 +1,4 @@
-use Rattle.wording.proofs.FromText.{capped_in, capped_past}
+use Rattle.wording.proofs.FromTexts.{capped_in, capped_past}
 use Rattle.wording.proofs.numbers.capped.Goals as goal
 
 pub returns-then-n-most : goal.returns-then-n-most

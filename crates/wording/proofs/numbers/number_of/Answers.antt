@@ -1,5 +1,5 @@
 use Prim.Native.Nat.{◌-◌}
-use Rattle.wording.proofs.FromText.{read_none, read_start, read_low, read_high, read_more, read_in, read_over, product, capped_small}
+use Rattle.wording.proofs.FromTexts.{read_none, read_start, read_low, read_high, read_more, read_in, read_over, product, capped_small}
 use native.Mathlib.Omega.{arith}
 use borrow.Author.Rules.{rules}
 use Rattle.wording.proofs.numbers.number_of.Goals as goal
