@@ -35,7 +35,7 @@ fn number_of(table: &[u8], y: u16) -> u8
 pub fn read(core: &[u64], table: &[u8], code: u16, i: u16) -> Numbered
     requires { table.now ≡ operator_numbers }
     ensures small { result.k < 1024 }
-    ensures k_value { syllable_numbered result.n result.k ≡ decode_of (syllable_of (get_or core.now (code + i / 4) 0) (i % 4)) }
+    ensures decoded { syllable_numbered result.n result.k ≡ decode_of (syllable_of (get_or core.now (code + i / 4) 0) (i % 4)) }
 {
     let w = word_at(core, code as usize + (i / 4) as usize);
     let y = syllable::syllable_at(w, (i % 4) as u8);

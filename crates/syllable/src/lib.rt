@@ -14,7 +14,7 @@ ghost use Rattle.syllable.specs.ForCode.Numbered.{operator_numbered};
 
 use table::NUMBERS;
 
-#[derive(Drop)]
+#[derive(Clone, Copy)]
 pub enum Arithmetic {
     Add,
     Sub,
@@ -23,7 +23,7 @@ pub enum Arithmetic {
     Rdv,
 }
 
-#[derive(Drop)]
+#[derive(Clone, Copy)]
 pub enum Relation {
     Gtr,
     Geq,
@@ -33,7 +33,7 @@ pub enum Relation {
     Neq,
 }
 
-#[derive(Drop)]
+#[derive(Clone, Copy)]
 pub enum Logic {
     Lnd,
     Lor,
@@ -41,7 +41,7 @@ pub enum Logic {
     Lng,
 }
 
-#[derive(Drop)]
+#[derive(Clone, Copy)]
 pub enum Branch {
     Bfw,
     Bbw,
@@ -50,7 +50,7 @@ pub enum Branch {
 }
 
 // NotBuilt holds the number k of an operator syllable that the paper does not list.
-#[derive(Drop)]
+#[derive(Clone, Copy)]
 pub enum Operator {
     Arithmetic(Arithmetic),
     Relation(Relation),
@@ -76,7 +76,7 @@ pub enum Operator {
     NotBuilt(u16),
 }
 
-#[derive(Drop)]
+#[derive(Clone, Copy)]
 pub enum Syllable {
     Litc(u16),
     Opdc(u16),

@@ -8,7 +8,7 @@ use crate::trials::{Outcome, Sum};
 // Writes the line over the start of the room, and answers its length.
 pub fn line(t: Outcome, room: &mut [u8; 128]) -> usize
     ensures written { Written room.old 0 (line_of (says_outcome t)) room.new result }
-    ensures upper_bound { result ≤ 128 }
+    ensures within { result ≤ 128 }
 {
     match t {
         Outcome::Refused(n) => decimal(room, 0, n, 10),
