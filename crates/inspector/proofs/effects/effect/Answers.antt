@@ -66,16 +66,16 @@ returns-in-32-to-33 c = λ sheet xs k s. c.branched_if.ensures xs s ∙ branch_i
 
 pub returns-in_default : goal.returns-in_default
 unfolding effected
-returns-in_default c = λ sheet xs k s. just sheet _ xs c.args.n 0 (omega (arith, c.in_default-1.rest)) refl
+returns-in_default c = λ sheet xs k s. just sheet _ xs c.args.n 0 (omega (arith, c.in_default.in_default-own.rest)) refl
 
 pub returns-in_default-2 : goal.returns-in_default-2
 unfolding effected
-returns-in_default-2 c = λ sheet xs k s. just sheet _ xs c.args.n 17 (omega (arith, c.in_default-1.rest)) refl
+returns-in_default-2 c = λ sheet xs k s. just sheet _ xs c.args.n 17 (omega (arith, c.in_default.in_default-own.rest)) refl
 
 pub returns-in_default-3 : goal.returns-in_default-3
 unfolding effected
-returns-in_default-3 c = λ sheet xs k s. just sheet _ xs c.args.n 29 (twenty_nine c.args.n (omega arith) (omega arith) c.in_default-1.rest.0.0.0.0.0.0.0.0.0.0.0.1 c.in_default-1.rest.0.0.0.0.0.0.0.0.0.0.1 c.in_default-1.rest.0.0.0.0.0.0.0.0.0.1 c.in_default-1.rest.0.0.0.0.0.0.0.0.1 c.in_default-1.rest.0.0.0.0.0.0.0.1 c.in_default-1.rest.0.0.0.0.0.0.1 c.in_default-1.rest.0.0.0.0.0.1 c.in_default-1.rest.0.0.0.0.1) refl
+returns-in_default-3 c = λ sheet xs k s. just sheet _ xs c.args.n 29 (twenty_nine c.args.n (omega arith) (omega arith) c.in_default.in_default-own.rest.0.0.0.0.0.0.0.0.0.0.0.1 c.in_default.in_default-own.rest.0.0.0.0.0.0.0.0.0.0.1 c.in_default.in_default-own.rest.0.0.0.0.0.0.0.0.0.1 c.in_default.in_default-own.rest.0.0.0.0.0.0.0.0.1 c.in_default.in_default-own.rest.0.0.0.0.0.0.0.1 c.in_default.in_default-own.rest.0.0.0.0.0.0.1 c.in_default.in_default-own.rest.0.0.0.0.0.1 c.in_default.in_default-own.rest.0.0.0.0.1) refl
 
 pub returns-in_default-4 : goal.returns-in_default-4
 unfolding effected
-returns-in_default-4 c = λ sheet xs k s. late_at sheet _ xs _ (omega arith) c.in_default-1.rest.0.0.0.1 c.in_default-1.rest.0.0.1 c.in_default-1.rest.0.1 c.in_default-1.rest.1
+returns-in_default-4 c = λ sheet xs k s. late_at sheet _ xs _ (omega arith) c.in_default.in_default-own.rest.0.0.0.1 c.in_default.in_default-own.rest.0.0.1 c.in_default.in_default-own.rest.0.1 c.in_default.in_default-own.rest.1

@@ -16,10 +16,10 @@ pub missed-requires : goal.missed-requires
 missed-requires c = (omega (arith, c.requires.long, c.count-words.ensures), c.loop-i-test.true)
 
 pub returns-then-missed : goal.returns-then-missed
-returns-then-missed c = sought_at _ _ _ (omega (arith, c.loop-i-test.true, c.count-words.ensures)) (target_as _ _ _ c.read-y.result.n c.read-y.result.k c.first-code.ensures c.read-y.ensures.1 (c.missed.ensures _ _ c.read-y.result.k (record { start = c.first-code.ensures; count = c.count-words.ensures; marked = c.requires.marked })) ∙ c.if-missed.true) c.loop-i.invariant.1
+returns-then-missed c = sought_at _ _ _ (omega (arith, c.loop-i-test.true, c.count-words.ensures)) (target_as _ _ _ c.read-y.result.n c.read-y.result.k c.first-code.ensures c.read-y.ensures.decoded (c.missed.ensures _ _ c.read-y.result.k (record { start = c.first-code.ensures; count = c.count-words.ensures; marked = c.requires.marked })) ∙ c.if-missed.true) c.loop-i.invariant.1
 
 pub loop-i-preserved : goal.loop-i-preserved
-loop-i-preserved c = (omega (arith, c.loop-i-test.true, c.count-words.ensures), sought_more _ _ _ (omega (arith, c.loop-i-test.true, c.count-words.ensures)) (target_as _ _ _ c.read-y.result.n c.read-y.result.k c.first-code.ensures c.read-y.ensures.1 (c.missed.ensures _ _ c.read-y.result.k (record { start = c.first-code.ensures; count = c.count-words.ensures; marked = c.requires.marked })) ∙ c.if-missed.false) c.loop-i.invariant.1)
+loop-i-preserved c = (omega (arith, c.loop-i-test.true, c.count-words.ensures), sought_more _ _ _ (omega (arith, c.loop-i-test.true, c.count-words.ensures)) (target_as _ _ _ c.read-y.result.n c.read-y.result.k c.first-code.ensures c.read-y.ensures.decoded (c.missed.ensures _ _ c.read-y.result.k (record { start = c.first-code.ensures; count = c.count-words.ensures; marked = c.requires.marked })) ∙ c.if-missed.false) c.loop-i.invariant.1)
 
 pub returns : goal.returns
 returns c = sought_all _ _ _ (omega (arith, c.loop-i-test.false, c.count-words.ensures)) c.loop-i.invariant.1
