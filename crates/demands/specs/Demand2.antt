@@ -2,7 +2,7 @@
 -- That the calls give what the definitions of `machine` and `tape` say is in their contracts, by equations; here stands what the definitions themselves do.
 use Rattle.std.specs.Prelude.{ℕ, suc, ◌+◌, ◌*◌, ◌<◌, ◌≡◌, ◌≢◌, true, List, length}
 use Rattle.word.specs.Core.{length_fits, words_fit}
-use Rattle.word.specs.Digits.{below}
+use Rattle.word.specs.Digits.{Below}
 use Rattle.machine.specs.declared.outcome.Registers.{Registers}
 use Rattle.machine.specs.declared.outcome.Answer.{Answer}
 use Rattle.machine.specs.declared.outcome.Ran.{Ran}
@@ -32,7 +32,7 @@ pub record Demand2 : Type 0 where
   -- a run of n that spent its budget, and then of m, is the run of n + m
   pub run_add : (n m : ℕ) (st : State) → run_from (n + m) st ≡ goes_on_for (run_from n st) m
   -- an accepted file read and written is the same file
-  pub file_same : (bytes core room : List ℕ) → below 256 bytes → read_number_of bytes (length core) ≡ 0 → length room ≡ length bytes
+  pub file_same : (bytes core room : List ℕ) → Below 256 bytes → read_number_of bytes (length core) ≡ 0 → length room ≡ length bytes
       → (write_number_of (read_file_of bytes core) (length room) ≡ 0) × (write_file_of (read_file_of bytes core) room ≡ bytes)
   -- a core written and read is the same core
   pub core_same : (core room old : List ℕ) → length_fits core ≡ true → words_fit core ≡ true → length room ≡ 6 * length core → length old ≡ length core
