@@ -44,12 +44,10 @@ load_same n room e = by _ _ refl refl e
     by false b p q e = absurd (let z : ◌≡◌ {A = ℕ} 0 1 = ap (λ (t : Bool). elim t [ true ↦ 1 | false ↦ 0 ]) (sym p ∙ eq-eqb (core_number_of n) 0 e) in omega arith)
 
 -- A file is copied, or nothing is.
-pub load_yes : (file old : List ℕ) {new : List ℕ} → load_number_of (length file) (length old) ≡ 0 → new ≡ take (length file) file ++ drop (length file) old
+pub load_yes : (file old : List ℕ) {new : List ℕ} → load_number_of (length file) (length old) ≡ 0 → new ≡ file
     → new ≡ (if eqb (load_number_of (length file) (length old)) 0 then file else old)
 unfolding if◌then◌else◌
-load_yes file old z e =
-    let l : length old ≡ length file = load_same (length file) (length old) z in
-    rw (eq-eqb (load_number_of (length file) (length old)) 0 z) (e ∙ rw (take_all (length file) file (omega arith), sym l, drop-length old) (append-nil file))
+load_yes file old z e = rw (eq-eqb (load_number_of (length file) (length old)) 0 z) e
 
 pub load_no : (file old : List ℕ) → (load_number_of (length file) (length old) ≡ 0 → ⊥)
     → old ≡ (if eqb (load_number_of (length file) (length old)) 0 then file else old)

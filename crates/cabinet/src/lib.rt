@@ -31,20 +31,18 @@ fn room() -> [u64; 32768]
 }
 
 // Copies a core file to a core of its exact length, and answers 0; or 4 or 1, and leaves the core as it was.
-#[unsafe(no_mangle)]
-pub extern "C" fn fifty_five_load(file: &[u8], core: &mut [u8]) -> u64
+pub fn fifty_five_load(file: &[u8], core: &mut [u8]) -> u64
     ensures { LoadedBytes file.now core.old core.new result }
 {
     let n = load_number(file.len(), core.len());
     if n == 0 {
-        bytes::copy(file, core);
+        core.copy_from_slice(file);
     }
     n
 }
 
 // One syllable. The checks are 4, 1, 3 in this order; then the machine answers.
-#[unsafe(no_mangle)]
-pub extern "C" fn fifty_five_step(core: &mut [u8], regs: &mut [u8]) -> u64
+pub fn fifty_five_step(core: &mut [u8], regs: &mut [u8]) -> u64
     ensures { step_bytes result core.new regs.new ≡ step_bytes_of core.old regs.old }
 {
     let n = core.len();
@@ -57,8 +55,7 @@ pub extern "C" fn fifty_five_step(core: &mut [u8], regs: &mut [u8]) -> u64
 }
 
 // Syllables until a stop or until the budget is spent. The checks are 4, 1, 3, 5 in this order; then the machine answers.
-#[unsafe(no_mangle)]
-pub extern "C" fn fifty_five_run(
+pub fn fifty_five_run(
     core: &mut [u8],
     regs: &mut [u8],
     budget: u64,
@@ -77,8 +74,7 @@ pub extern "C" fn fifty_five_run(
 }
 
 // Where the words of an array cell stand: the first of them and how many. The checks are 4, 1, 3, 36 in this order, each with 0 and 0.
-#[unsafe(no_mangle)]
-pub extern "C" fn fifty_five_hand_out(
+pub fn fifty_five_hand_out(
     core: &[u8],
     r: u64,
     cell: u64,
@@ -99,8 +95,7 @@ pub extern "C" fn fifty_five_hand_out(
 }
 
 // The inspector's number and place. The checks of the core are 4, 1 in this order, at place 0.
-#[unsafe(no_mangle)]
-pub extern "C" fn fifty_five_inspect(core: &[u8], sheet: &[u8], place: &mut u64) -> u64
+pub fn fifty_five_inspect(core: &[u8], sheet: &[u8], place: &mut u64) -> u64
     ensures { given result place.new ≡ inspect_bytes_of core.now sheet.now }
 {
     let n = core.len();
@@ -114,8 +109,7 @@ pub extern "C" fn fifty_five_inspect(core: &[u8], sheet: &[u8], place: &mut u64)
 }
 
 // Inspects a segment and, where it passed, runs it from the sheet's start. The checks are 4, 1, 3 in this order; then the inspector's, then 5.
-#[unsafe(no_mangle)]
-pub extern "C" fn fifty_five_post(
+pub fn fifty_five_post(
     core: &mut [u8],
     sheet: &[u8],
     budget: u64,

@@ -1,0 +1,14 @@
+-- The text of narrow_of.
+use Rattle.cabinet.specs.ForCode.Rooms.{narrow_of}
+use mathlib.Core.Path.{refl}
+use borrow.Author.Tests.{le-leb, lt-leb}
+use Rattle.machine.proofs.Calculus.{is_yes, is_no}
+use Rattle.cabinet.proofs.narrows.narrow_byte.Goals as goal
+
+pub returns-then-n-le255 : goal.returns-then-n-le255
+unfolding narrow_of
+returns-then-n-le255 c = is_yes _ _ (le-leb _ _ c.if-n-le255.true) refl
+
+pub returns : goal.returns
+unfolding narrow_of
+returns c = is_no _ _ (lt-leb _ _ c.if-n-le255.false) refl
