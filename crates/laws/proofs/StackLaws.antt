@@ -1,7 +1,7 @@
 -- The adjustments keep the stack; a push of a word, and LITC, put it on top.
 use Prim.Native.Nat.{ℕ, suc, ◌+◌, ◌-◌, ◌<◌}
 use mathlib.Core.Path.{◌≡◌, refl, sym, ◌∙◌, ap}
-use mathlib.Core.Bool.{Bool, true, false}
+use mathlib.Core.Bool.{true, false}
 use mathlib.Core.List.{List, [], ◌∷◌, ◌++◌, append-nil, append_assoc}
 use native.Mathlib.Omega.{arith}
 use borrow.Author.Tests.{ltb-true, eqb-false}
@@ -9,10 +9,10 @@ use lib.Dec.{eqb, ltb}
 use lib.ListN.{length, get_or, set, take}
 use lib.Seq.{take-suc, take-suc-set}
 use Rattle.word.specs.Choices.{if◌then◌else◌}
-use Rattle.machine.specs.Outcomes.{Res, on}
+use Rattle.machine.specs.Outcomes.{on}
 use Rattle.machine.specs.States.{State, empty_a, fill_a, fill_b, with_s, store}
 use Rattle.machine.specs.Memory.{in_core, read_of}
-use Rattle.machine.specs.Stack.{stack_of, slot_of, push_of, top_of, push_b_of, a_empty_of, a_full_of, b_full_of, both_full_of}
+use Rattle.machine.specs.Stack.{stack_of, push_of, top_of, push_b_of, a_empty_of, a_full_of, b_full_of, both_full_of}
 use Rattle.machine.specs.Stores.{litc_of}
 use Rattle.machine.proofs.Sizes.{Gives, goes, stops, gives_if, gives_bind, given, slot_gives}
 use Rattle.machine.proofs.Placings.{gives}

@@ -5,13 +5,12 @@ use mathlib.Core.Bool.{Bool, true, false, ◌&&◌, ◌||◌, false≢true}
 use mathlib.Core.List.{List, [], ◌∷◌}
 use native.Mathlib.Nat.{le_of_suc-le-suc, not-suc-le-zero, mod-lt}
 use native.Mathlib.Omega.{arith}
-use borrow.Author.Tests.{eq-eqb, ne_eqb, eqb-true, eqb-false, leb-true}
+use borrow.Author.Tests.{ne_eqb, eqb-true, leb-true}
 use lib.Dec.{eqb, ltb, leb}
 use lib.ListN.{length, get_or}
 use Rattle.machine.specs.declared.outcome.Cause.{Cause}
 use Rattle.machine.specs.declared.outcome.Cause.TheVariants.{Unbuilt}
 use Rattle.machine.specs.declared.outcome.Registers.{Registers}
-use Rattle.machine.specs.declared.outcome.Answer.{Answer}
 use Rattle.machine.specs.declared.outcome.Went.{Went}
 use Rattle.machine.specs.declared.outcome.Went.TheVariants.{On, Stop}
 use Rattle.machine.specs.declared.outcome.Done.{Done}
@@ -20,20 +19,19 @@ use Rattle.machine.specs.Outcomes.{Res, on, halt, number_of}
 use Rattle.machine.specs.States.{State, set_cl, state_of}
 use Rattle.machine.specs.Memory.{read_of}
 use Rattle.machine.specs.Calls.{call_k_of}
-use Rattle.machine.specs.Steps.{Ended, next, communicated, stopped, plain, last, operate_of, perform_of, advanced_of, fetched_by, execute_of, registers_fit, refusal_of, Stepped, ended_as, step_of, answered}
+use Rattle.machine.specs.Steps.{Ended, plain, last, operate_of, perform_of, execute_of, registers_fit, refusal_of, Stepped, ended_as, step_of}
 use Rattle.word.specs.Choices.{if◌then◌else◌}
 use Rattle.word.specs.Core.{length_fits, words_fit}
 use Rattle.syllable.specs.declared.Operator.{Operator}
 use Rattle.syllable.specs.declared.Operator.TheVariants.{NotBuilt}
 use Rattle.syllable.specs.declared.Position.{Position}
-use Rattle.syllable.specs.declared.Syllable.TheVariants.{Operator as Operates}
 use Rattle.syllable.specs.Codes.{listed}
 use Rattle.syllable.specs.Decoding.{decode_of}
 use Rattle.syllable.specs.Numbers.{operator_numbers, numbers_from, operator_number as number_at}
 use Rattle.syllable.specs.Positions.{syllable_of, advance_of}
 use Rattle.syllable.proofs.Entries.{entry}
 use Rattle.syllable.proofs.Numbered.{decode_number}
-use Rattle.machine.specs.ForCode.Answers.{went_of, done_of, KeepsOnStop, LeavesOnStop, Does, Ends, plain_as, last_as}
+use Rattle.machine.specs.ForCode.Answers.{went_of, done_of, LeavesOnStop, Does, Ends, plain_as, last_as}
 use Rattle.syllable.specs.ForCode.Numbered.{operator_from, operator_numbered, syllable_numbered}
 
 -- ---- an operator: how its parts went is how it ends

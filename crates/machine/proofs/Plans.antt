@@ -3,7 +3,7 @@ use mathlib.Core.Path.{◌≡◌, refl}
 use mathlib.Core.Bool.{Bool, true, false, not, ◌&&◌}
 use mathlib.Core.List.{List}
 use Prim.Native.Nat.{ℕ, ◌+◌, ◌*◌}
-use lib.ListN.{length, set}
+use lib.ListN.{length}
 use Rattle.machine.specs.declared.outcome.Registers.{Registers}
 use Rattle.machine.specs.Outcomes.{Res, on, halt, ◌>>=◌}
 use Rattle.machine.specs.States.{State, set_a, set_b, set_s, set_f, with_f, empty_a, empty_b, state_of, store}

@@ -15,7 +15,7 @@ use Rattle.machine.specs.Arithmetics.{or_unwhole, taken_of, given_of, divided_of
 use Rattle.machine.proofs.Calculus.{is_yes, is_no}
 use Rattle.machine.proofs.Integers.{held, reads_one, fits_whole, bits_zero, zero_bits}
 use Rattle.word.specs.Layout.{exponent_of}
-use Rattle.word.specs.Numbers.{value_of, whole_of, operand_of, OrNumber, the, given_back, says_whole, says_made}
+use Rattle.word.specs.Numbers.{value_of, whole_of, operand_of, the, given_back, says_whole, says_made}
 use Rattle.word.specs.Choices.{if◌then◌else◌}
 use Rattle.word.specs.declared.number.Whole.{Whole}
 use Rattle.word.specs.declared.number.Whole.TheVariants.{Number}

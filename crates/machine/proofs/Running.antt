@@ -1,21 +1,18 @@
 -- Laws of a run: what is left of it after n completed syllables.
-use Prim.Native.Nat.{ℕ, zero, suc, ◌+◌, ◌-◌, ◌≤◌, ◌<◌}
-use mathlib.Core.Path.{◌≡◌, refl, sym, ◌∙◌, ap}
-use mathlib.Core.Bool.{Bool, true, false}
+use Prim.Native.Nat.{ℕ, suc, ◌+◌, ◌-◌, ◌≤◌, ◌<◌}
+use mathlib.Core.Path.{◌≡◌, sym, ◌∙◌, ap}
 use mathlib.Core.List.{List}
 use native.Mathlib.Omega.{arith}
 use native.Mathlib.Nat.{add_assoc, add-zero, zero-add}
-use borrow.Author.Tests.{eq-eqb, ne_eqb, le-leb, lt-leb}
-use lib.Dec.{eqb, leb}
-use lib.ListN.{length}
+use borrow.Author.Tests.{ne_eqb, le-leb, lt-leb}
 use Rattle.machine.specs.declared.outcome.Cause.{Cause}
 use Rattle.machine.specs.declared.outcome.Registers.{Registers}
 use Rattle.machine.specs.declared.outcome.Done.{Done}
 use Rattle.machine.specs.declared.outcome.Done.TheVariants.{Next, Com, Stop as DoneStop}
 use Rattle.machine.specs.Outcomes.{number_of}
 use Rattle.machine.specs.States.{State, state_of}
-use Rattle.machine.specs.Steps.{Ended, next, communicated, stopped, execute_of, refusal_of}
-use Rattle.machine.specs.Runs.{Run, ends_at, counted, goes_on, run_from, run_of}
+use Rattle.machine.specs.Steps.{next, communicated, stopped, execute_of, refusal_of}
+use Rattle.machine.specs.Runs.{Run, ends_at, run_from, run_of}
 use Rattle.word.specs.Choices.{if◌then◌else◌}
 use Rattle.machine.specs.ForCode.Answers.{done_of, Ends}
 use Rattle.machine.proofs.Endings.{done_kept}

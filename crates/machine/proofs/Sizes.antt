@@ -1,19 +1,17 @@
 -- Small numbers stay small: what the code's casts and sums ask.
-use mathlib.Core.Path.{◌≡◌, refl, sym, ◌∙◌, ap, subst}
+use mathlib.Core.Path.{◌≡◌, refl, subst}
 use mathlib.Core.Bool.{Bool, true, false}
 use mathlib.Core.List.{List}
-use Prim.Native.Nat.{ℕ, ◌+◌, ◌*◌, ◌/◌, ◌%◌, ◌^◌, ◌<◌, ◌≤◌}
+use Prim.Native.Nat.{ℕ, ◌+◌, ◌*◌, ◌/◌, ◌%◌, ◌<◌, ◌≤◌}
 use native.Mathlib.Omega.{arith}
 use borrow.Author.Tests.{ltb-true, eqb-false}
 use lib.Dec.{ltb, eqb}
 use lib.ListN.{length}
-use Rattle.machine.specs.declared.outcome.Cause.TheVariants.{Address, Overflow}
 use Rattle.machine.specs.Outcomes.{Res, on, halt, ◌>>=◌}
 use Rattle.machine.specs.States.{State}
 use Rattle.machine.specs.Memory.{in_core, read_of, base_of, pattern_of, k_address_of}
 use Rattle.word.specs.Choices.{if◌then◌else◌}
 use Rattle.machine.specs.Stack.{slot_of, top_of}
-use Rattle.word.specs.Layout.{f_field_of}
 use Rattle.machine.specs.ForCode.Pushes.{slot_if}
 
 -- What a result that went on says of its value.

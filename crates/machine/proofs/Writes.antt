@@ -1,8 +1,8 @@
 -- Laws of writing core: a write that is made or not, and one that is put back.
-use mathlib.Core.Path.{◌≡◌, refl, sym, ◌∙◌, ap}
+use mathlib.Core.Path.{◌≡◌, refl, sym, ◌∙◌}
 use mathlib.Core.Bool.{Bool, true, false, true≢false, false≢true}
 use mathlib.Core.List.{List}
-use Prim.Native.Nat.{ℕ, ◌<◌, ◌≤◌}
+use Prim.Native.Nat.{ℕ, ◌≤◌}
 use lib.ListN.{length, set, get_or, length-set}
 use lib.Seq.{set_out, set-set, set-get_or}
 use Rattle.machine.specs.ForCode.Answers.{put_of}

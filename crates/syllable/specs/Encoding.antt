@@ -1,11 +1,8 @@
 -- The syllable that reads as a given one.
-use Rattle.std.specs.Prelude.{◌≡◌, ℕ, ◌+◌, ◌*◌, ◌%◌, ◌<◌}
-use mathlib.Core.List.{Memᴰ}
-use Rattle.syllable.specs.declared.Operator.{Operator}
-use Rattle.syllable.specs.declared.Operator.TheVariants.{NotBuilt}
+use Rattle.std.specs.Prelude.{ℕ, ◌+◌, ◌*◌, ◌%◌}
 use Rattle.syllable.specs.declared.Syllable.{Syllable}
 use Rattle.syllable.specs.declared.Syllable.TheVariants.{Litc, Opdc, Desc, Operator as Operates}
-use Rattle.syllable.specs.Codes.{operator_code, listed}
+use Rattle.syllable.specs.Codes.{operator_code}
 
 -- "by its last two bits 00, 10, 11, 01; the first ten bits are its number k": ten bits, so k is taken modulo 1,024
 abbrev pub encode_of : Syllable → ℕ

@@ -1,7 +1,6 @@
 -- Any two permitted answers of a call are equal, and so is what they leave behind its references.
 use mathlib.Core.Path.{◌≡◌}
 use Rattle.word.proofs.Sole.{sole}
-use Rattle.tape.specs.Files.{FileRead, FileWritten}
 use Rattle.tape.proofs.reading.read_file.Reads as read_file
 use Rattle.tape.proofs.writing.write_file.Reads as write_file
 

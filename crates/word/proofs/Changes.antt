@@ -1,11 +1,11 @@
 -- Laws of fields: what the machine's shifts give, what a field of a changed word holds, and that a changed word stays a word.
-use Prim.Native.Nat.{ℕ, zero, suc, ◌+◌, ◌-◌, ◌*◌, ◌/◌, ◌%◌, ◌^◌, ◌≤◌, ◌<◌}
-use mathlib.Core.Path.{◌≡◌, refl, sym, ◌∙◌, ap, subst}
-use native.Mathlib.Nat.{mod-lt, mod-le, mod-mod, one-mul, div-add-mod', div-mul-le_self, div-div-eq-div-mul, mul_comm, mul_assoc, mul-le-mul_right, le_trans, lt_of_le_of_lt, mod-eq_of_lt}
+use Prim.Native.Nat.{ℕ, ◌+◌, ◌-◌, ◌*◌, ◌/◌, ◌%◌, ◌^◌, ◌≤◌, ◌<◌}
+use mathlib.Core.Path.{◌≡◌, sym, ◌∙◌, ap, subst}
+use native.Mathlib.Nat.{mod-lt, mod-le, one-mul, div-add-mod', div-mul-le_self, mul-le-mul_right, le_trans, lt_of_le_of_lt, mod-eq_of_lt}
 use native.Mathlib.Omega.{arith}
 use borrow.Author.Tests.{le-leb, lt-leb}
 use lib.Pow.{pow_pos, pow-add, shl_exact, shr_lt}
-use lib.Arith.{digits_div, digits_mod, digits_lt}
+use lib.Arith.{digits_lt}
 use mir.Syntax.{w64}
 use mir.Val.{Fits}
 use Rattle.word.specs.Choices.{if◌then◌else◌}

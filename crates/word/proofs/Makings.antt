@@ -1,11 +1,11 @@
 -- What was made is read back: each field of a made word is the argument, cut to the field's bits.
-use Prim.Native.Nat.{ℕ, ◌%◌, ◌<◌}
-use mathlib.Core.Path.{◌≡◌, refl}
+use Prim.Native.Nat.{ℕ, ◌<◌}
+use mathlib.Core.Path.{◌≡◌}
 use mathlib.Core.Bool.{Bool, true, false}
 use native.Mathlib.Omega.{arith}
 use borrow.Author.Tests.{eq-eqb, ne_eqb}
 use Rattle.word.specs.Field.{field, bit, one_of}
-use Rattle.word.specs.Layout.{flag_of, presence_of, size_of, address_of, data_of, mode_of, argument_of, f_field_of, program_of, mscw_r_of, mscw_msff_of, mscw_salf_of, mscw_of, rcw_call_of, rcw_l_of, rcw_c_of, rcw_of}
+use Rattle.word.specs.Layout.{data_of, program_of, mscw_of, rcw_of}
 use Rattle.word.specs.ForTheorems.Backs.{DataBack, ProgramBack, MscwBack, RcwBack}
 
 pub one_lt : (b : Bool) → one_of b < 2

@@ -1,11 +1,10 @@
 -- Laws of whole numbers: what the tests of sign, exponent and size say of an operand's number.
-use Prim.Native.Nat.{ℕ, zero, suc, ◌+◌, ◌*◌, ◌%◌, ◌^◌, ◌≤◌, ◌<◌, zero-le}
-use mathlib.Core.Path.{◌≡◌, refl, sym, ◌∙◌, ap, subst}
+use Prim.Native.Nat.{ℕ, suc, ◌+◌, ◌^◌, ◌≤◌, ◌<◌, zero-le}
+use mathlib.Core.Path.{◌≡◌, refl, sym, ◌∙◌, ap}
 use mathlib.Core.Bool.{Bool, true, false}
 use native.Mathlib.Omega.{arith}
-use native.Mathlib.Nat.{mod-lt}
 use borrow.Author.Tests.{ltb-true, ltb-false, lt-ltb, le-ltb, eq-eqb, ne_eqb}
-use lib.Dec.{T, ltb, eqb}
+use lib.Dec.{T, ltb}
 use lib.IntN.{ℤ, pos, negsuc, neg_ℤ, nat_abs, ◌-ℤ◌}
 use lib.Signed.{lt_z, non_neg}
 use mir.Syntax.{w64}
@@ -13,7 +12,7 @@ use mir.Val.{SFits, Fits, of_z, to_z}
 use mir.ValLaws.{to_z_pos, to_z-of_z}
 use Rattle.word.specs.Field.{field, placed, one_of}
 use Rattle.word.specs.Layout.{sign_of, exponent_of, magnitude_of}
-use Rattle.word.specs.Numbers.{signed, value_of, whole_of, operand_of, negative, OrNumber, the, given_back}
+use Rattle.word.specs.Numbers.{signed, value_of, whole_of, operand_of, negative, the, given_back}
 use Rattle.word.specs.Choices.{if◌then◌else◌}
 use Rattle.word.proofs.Makings.{bit_is}
 use Rattle.word.proofs.Signed.{back, minus_fits, minus_back, abs_neg, true_false, test_back, test_back_right, casts, below_zero, not_below_zero}

@@ -4,14 +4,14 @@ use mathlib.Core.Path.{◌≡◌, refl, sym, ◌∙◌, ap, subst}
 use mathlib.Core.Bool.{Bool, true, false, ◌&&◌, false≢true}
 use mathlib.Core.List.{List, [], ◌∷◌}
 use mathlib.Core.Option.{Option, some, none}
-use native.Mathlib.Nat.{pow-zero, pow-succ', pow-suc, mod-one, div-one, mul-one, add-zero, zero-add, sub_self, mod-eq_of_lt, one-le-pow, mod-lt, div-div-eq-div-mul, mul-le-mul_left, le_trans, le-add_right, mul_assoc, add-mul, add_assoc, mul_comm}
+use native.Mathlib.Nat.{pow-zero, pow-succ', pow-suc, mod-one, div-one, sub_self, mod-eq_of_lt, one-le-pow, mod-lt, div-div-eq-div-mul, mul-le-mul_left}
 use native.Mathlib.Omega.{arith}
 use native.Mathlib.Numerals.{add-one}
 use borrow.Author.Tests.{lt-ltb, le-ltb, lt-leb, le-leb, leb-true}
 use lib.Arith.{mod-mul, digits_div, digits_mod, digits_lt}
-use lib.Dec.{ltb, leb}
+use lib.Dec.{leb}
 use lib.ListN.{length, get_or, drop, set, length-set, length-drop, drop_of_length-le}
-use lib.Seq.{drop-cons, get_or-set_same, drop-set-lt, drop-length}
+use lib.Seq.{drop-cons, get_or-set_same, drop-set-lt}
 use mir.Syntax.{w8, w64}
 use mir.Val.{Fits}
 use Rattle.word.specs.Digits.{digits, numeral, Below, byte_base, to_digits_of, if_word, from_digits_of}

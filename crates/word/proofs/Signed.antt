@@ -1,15 +1,15 @@
 -- Signed numbers as the machine's i64 holds them: what is read back, negated and cast. A range is measured by `nat_abs`.
-use Prim.Native.Nat.{ℕ, zero, suc, ◌+◌, ◌-◌, ◌*◌, ◌%◌, ◌^◌, ◌≤◌, ◌<◌}
-use mathlib.Core.Path.{◌≡◌, refl, sym, ◌∙◌, ap, subst}
+use Prim.Native.Nat.{ℕ, zero, suc, ◌^◌, ◌<◌}
+use mathlib.Core.Path.{◌≡◌, refl, sym, ◌∙◌, subst}
 use mathlib.Core.Bool.{Bool, true, false}
 use native.Mathlib.Omega.{arith}
 use borrow.Author.Tests.{ltb-true}
 use lib.Dec.{T, ltb}
-use lib.IntN.{ℤ, pos, negsuc, neg_ℤ, nat_abs, ◌+ℤ◌, ◌-ℤ◌, +ℤ_idl}
-use lib.Signed.{lt_z, non_neg, mag}
+use lib.IntN.{ℤ, pos, negsuc, neg_ℤ, nat_abs, ◌-ℤ◌, +ℤ_idl}
+use lib.Signed.{lt_z, non_neg}
 use mir.Syntax.{w64}
 use mir.Val.{SFits, Fits, of_z, to_z}
-use mir.ValLaws.{to_z_pos, to_z-of_z}
+use mir.ValLaws.{to_z-of_z}
 
 pub true_false : true ≡ false → ⊥
 true_false e = let z : ◌≡◌ {A = ℕ} 0 1 = cc in omega arith

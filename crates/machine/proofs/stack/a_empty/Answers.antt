@@ -2,7 +2,6 @@ use Rattle.machine.proofs.Calculus.{stays_at}
 use Rattle.machine.specs.Stack.{a_empty_of}
 use mathlib.Core.Path.{refl}
 use Rattle.machine.proofs.Calculus.{is_yes, is_no, is_given, is_cut, wrote, reads, went, cut, kept}
-use Rattle.machine.proofs.stack.a_empty.Reads as reads
 use Rattle.machine.proofs.stack.a_empty.Goals as goal
 
 pub returns-in-Stop : goal.returns-in-Stop

@@ -4,7 +4,6 @@ use native.Mathlib.Omega.{arith}
 use mathlib.Core.Path.{refl, sym}
 use Rattle.machine.proofs.Calculus.{known, is_yes, is_no, is_given, is_cut, stays, wrote, reads}
 use Rattle.machine.specs.ForCode.Answers.{spot_says}
-use Rattle.machine.proofs.stack.push_b.Reads as reads
 use Rattle.machine.proofs.stack.push_b.Goals as goal
 
 pub returns-in-Stop : goal.returns-in-Stop

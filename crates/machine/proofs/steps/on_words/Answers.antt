@@ -1,6 +1,5 @@
 use mathlib.Core.Path.{sym, ◌∙◌}
 use Rattle.machine.proofs.Endings.{plain_reads}
-use Rattle.machine.proofs.steps.plain.Reads as plain_reads
 use Rattle.machine.proofs.steps.on_words.Goals as goal
 
 pub returns-then-n-le11 : goal.returns-then-n-le11

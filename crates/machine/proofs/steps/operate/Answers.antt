@@ -3,7 +3,6 @@ use mathlib.Core.Path.{refl}
 use Rattle.machine.proofs.Calculus.{reads}
 use Rattle.machine.proofs.Endings.{plains, lasts, by_number, ends_unbuilt}
 use Rattle.machine.specs.Steps.{operate_of}
-use Rattle.machine.proofs.steps.operate.Reads as reads
 use Rattle.machine.proofs.steps.operate.Goals as goal
 
 pub returns-in-21 : goal.returns-in-21

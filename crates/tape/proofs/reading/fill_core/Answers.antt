@@ -3,7 +3,6 @@ use Rattle.tape.proofs.Words.{fill_more, fill_end}
 use Rattle.tape.specs.Files.{words_of}
 use lib.ListN.{length-set}
 use mathlib.Core.Path.{refl}
-use Prim.Native.Nat.{◌-◌}
 use native.Mathlib.Omega.{arith}
 use borrow.Author.Rules.{rules}
 use Rattle.tape.proofs.reading.fill_core.Goals as goal

@@ -2,7 +2,6 @@
 use Rattle.tape.proofs.Bytes.{spread_more, spread_end}
 use Rattle.tape.specs.Files.{bytes_of}
 use mathlib.Core.Path.{refl}
-use Prim.Native.Nat.{◌-◌}
 use native.Mathlib.Omega.{arith}
 use borrow.Author.Rules.{rules}
 use Rattle.tape.proofs.writing.spread.Goals as goal

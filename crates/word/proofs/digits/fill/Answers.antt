@@ -1,5 +1,4 @@
 use Rattle.word.proofs.Places.{digit_fits}
-use Prim.Native.Nat.{◌-◌}
 use mathlib.Core.Path.{refl}
 use borrow.Author.Rules.{rules}
 use lib.ListN.{length, length-set}

@@ -1,5 +1,4 @@
 use Rattle.word.proofs.Places.{product_fits}
-use Prim.Native.Nat.{◌-◌}
 use native.Mathlib.Omega.{arith}
 use borrow.Author.Rules.{rules}
 use Rattle.word.proofs.Places.{gather_none, gather_more, gather_end, gather_past}
