@@ -9,7 +9,6 @@ use borrow.Author.Tests.{ltb-true, eqb-true}
 use lib.Dec.{eqb, ltb}
 use lib.IntN.{ℤ, pos, negsuc}
 use lib.ListN.{length, get_or}
-use Rattle.machine.specs.Outcomes.{on}
 use Rattle.machine.specs.States.{State, fill_a, word_at}
 use Rattle.machine.specs.Calls.{within_of, index_of, indexed_of, load_of, data_call_of, left_of, call_as, call_of, fetched_of, call_k_of}
 use Rattle.word.specs.Field.{with_field, bit}

@@ -16,7 +16,7 @@ use Rattle.syllable.specs.Positions.{next_of}
 use Rattle.sheet.specs.Sheets.{code_of, code_words_of, room_of}
 use Rattle.inspector.specs.Turns.{turn_of}
 use Rattle.inspector.specs.Scan.{Shape, Left, leaves, breaks, when, within, carried, broken, syllable_at, syllable_left, shape_at, closes}
-use Rattle.inspector.specs.Targets.{is_empty, lands}
+use Rattle.inspector.specs.Targets.{is_empty}
 use Rattle.demands.specs.Stays.{Allowed}
 use Rattle.demands.proofs.Tests.{shows_and, shows, shows_lt, shows_le}
 use Rattle.demands.proofs.Safe.{Safe, goes, stops}

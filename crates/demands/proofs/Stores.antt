@@ -14,7 +14,7 @@ use Rattle.machine.specs.Stores.{place_of, lod_of, snd_of, std_of, com_of}
 use Rattle.word.specs.Field.{field}
 use Rattle.word.specs.Layout.{flag_of, presence_of, address_of}
 use Rattle.sheet.specs.Sheets.{room_of, r_of, cell_of}
-use Rattle.inspector.specs.Scan.{Item, number, Shape, value, writable, loaded, stored}
+use Rattle.inspector.specs.Scan.{Item, Shape, value, writable, loaded, stored}
 use Rattle.demands.proofs.Tests.{shows_and, shows, shows_eq}
 use Rattle.demands.proofs.Safe.{Safe, goes, safe_if, safe_bind, safe_map}
 use Rattle.demands.proofs.Passed.{Passed}

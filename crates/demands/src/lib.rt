@@ -1,3 +1,2 @@
 // The statements of the demands, as theorems over the definitions.
 #![tactic(auto)]
-

@@ -1,6 +1,6 @@
 -- Rule 35 as the code takes it: where a branch lands, and what the marks say of it.
-use Prim.Native.Nat.{ℕ, zero, suc, ◌+◌, ◌-◌, ◌*◌, ◌/◌, ◌%◌, ◌≤◌, ◌<◌, zero-le}
-use mathlib.Core.Path.{◌≡◌, refl, sym, ◌∙◌, ap, subst}
+use Prim.Native.Nat.{ℕ, ◌+◌, ◌-◌, ◌*◌, ◌/◌, ◌%◌, ◌≤◌, ◌<◌, zero-le}
+use mathlib.Core.Path.{◌≡◌, refl, sym, ◌∙◌, ap}
 use mathlib.Core.Bool.{Bool, true, false, not, ◌&&◌}
 use mathlib.Core.List.{List}
 use native.Mathlib.Omega.{arith}
@@ -10,12 +10,11 @@ use lib.ListN.{get_or}
 use Rattle.inspector.specs.declared.targets.Landing.{Landing}
 use Rattle.inspector.specs.declared.targets.Landing.TheVariants.{On, Past}
 use Rattle.sheet.specs.Sheets.{code_of, code_words_of}
-use Rattle.inspector.specs.Scan.{Left, syllable_at, shape_at}
-use Rattle.inspector.specs.Targets.{is_empty, distance, lands, misses_at, misses, turn_misses, misses_target}
+use Rattle.inspector.specs.Scan.{shape_at}
+use Rattle.inspector.specs.Targets.{is_empty, lands, misses_at, misses, turn_misses, misses_target}
 use Rattle.inspector.specs.Turns.{turn_of}
 use Rattle.inspector.specs.ForCode.Forms.{far_of, land_of, Aimed}
-use Rattle.inspector.proofs.Syllables.{All, end, ◌&◌, each, unknown}
-use Rattle.machine.specs.Outcomes.{Res, on, halt}
+use Rattle.inspector.proofs.Syllables.{end, ◌&◌, each, unknown}
 use Rattle.machine.specs.Branches.{landing_of}
 use Rattle.syllable.specs.declared.Syllable.{Syllable}
 use Rattle.syllable.specs.Decoding.{decode_of}

@@ -1,17 +1,17 @@
 -- The answer, rule by rule.
-use Prim.Native.Nat.{ℕ, zero, suc, ◌+◌, ◌*◌, ◌%◌, ◌≤◌, ◌<◌}
-use mathlib.Core.Path.{◌≡◌, refl, sym, ◌∙◌, ap, subst}
+use Prim.Native.Nat.{ℕ, ◌%◌, ◌≤◌, ◌<◌}
+use mathlib.Core.Path.{◌≡◌, refl, sym, ◌∙◌, ap}
 use mathlib.Core.Bool.{Bool, true, false, not, ◌&&◌, false≢true}
 use mathlib.Core.List.{List}
 use native.Mathlib.Omega.{arith}
-use borrow.Author.Tests.{leb-true, eqb-true, eqb-false, not-false}
+use borrow.Author.Tests.{leb-true, not-false}
 use lib.Dec.{eqb, leb}
 use lib.ListN.{length}
 use Rattle.inspector.specs.declared.verdict.Verdict.{Verdict}
 use Rattle.inspector.specs.declared.verdict.Find.{Find}
 use Rattle.inspector.specs.declared.verdict.Find.TheVariants.{At, Nowhere}
-use Rattle.sheet.specs.Sheets.{Entry, entry_at, entries, code_words_of, room_of, table_of}
-use Rattle.inspector.specs.Verdicts.{Found, at, nowhere, lowest, given, blamed}
+use Rattle.sheet.specs.Sheets.{Entry, entry_at, entries}
+use Rattle.inspector.specs.Verdicts.{Found, nowhere, lowest, given, blamed}
 use Rattle.inspector.specs.ForCode.Forms.{found_of, SheetRanged}
 use Rattle.inspector.proofs.Searches.{none_found}
 use Rattle.inspector.specs.Records.{ranged, record_good, sheet_fits}

@@ -1,13 +1,13 @@
 -- What each syllable does to a shape is what its definition leaves, by the shape's height.
-use Prim.Native.Nat.{ℕ, zero, suc, ◌+◌, ◌-◌, ◌≤◌, ◌<◌}
+use Prim.Native.Nat.{ℕ, suc}
 use mathlib.Core.Path.{◌≡◌, refl, sym, ◌∙◌, ap}
 use mathlib.Core.Bool.{Bool, true, false, ◌&&◌}
 use mathlib.Core.List.{List, [], ◌∷◌}
 use native.Mathlib.Omega.{arith}
-use borrow.Author.Tests.{le-leb, lt-ltb, le-ltb, lt-leb, ne_eqb, eq-eqb, ltb-true, ltb-false, eqb-true, eqb-false}
+use borrow.Author.Tests.{le-leb, lt-leb, ne_eqb, ltb-true, ltb-false, eqb-true, eqb-false}
 use lib.Dec.{eqb, ltb, leb}
 use Rattle.inspector.specs.declared.shapes.Effect.{Effect}
-use Rattle.inspector.specs.declared.shapes.Effect.TheVariants.{Drops, Puts, Swaps, Breaks}
+use Rattle.inspector.specs.declared.shapes.Effect.TheVariants.{Drops, Puts, Breaks}
 use Rattle.sheet.specs.Sheets.{cell_of}
 use Rattle.inspector.specs.Scan.{Item, literal, number, place, Shape, Left, leaves, breaks, when, value, writable, called_over, two_values, one_value, tested, doubled, deleted, loaded, stored, branched, branched_if, communicated}
 use Rattle.inspector.specs.ForCode.Forms.{item_of, Seen, none, one, two, more, effected, when_of}

@@ -1,8 +1,8 @@
 -- The scan's loop: what it has shown before syllable i, and what a turn adds.
-use Prim.Native.Nat.{ℕ, zero, suc, ◌+◌, ◌-◌, ◌*◌, ◌/◌, ◌%◌, ◌≤◌, ◌<◌}
+use Prim.Native.Nat.{ℕ, suc, ◌+◌, ◌*◌, ◌/◌, ◌%◌, ◌≤◌, ◌<◌}
 use mathlib.Core.Path.{◌≡◌, refl, sym, ◌∙◌, ap, subst}
 use mathlib.Core.Bool.{Bool, true, false, not, ◌&&◌, ◌||◌}
-use mathlib.Core.List.{List, []}
+use mathlib.Core.List.{List}
 use native.Mathlib.Nat.{not-suc-le-zero}
 use native.Mathlib.Omega.{arith}
 use borrow.Author.Count.{below_more}
@@ -15,7 +15,7 @@ use Rattle.inspector.specs.declared.shapes.Scanned.{Scanned}
 use Rattle.inspector.specs.declared.shapes.Scanned.TheVariants.{Height, Broken}
 use Rattle.sheet.specs.Sheets.{code_of, code_words_of, room_of}
 use Rattle.inspector.specs.Turns.{turn_of}
-use Rattle.inspector.specs.Scan.{Shape, Left, leaves, breaks, carried, within, broken, closes, syllable_left, syllable_at, shape_at, breaks_at}
+use Rattle.inspector.specs.Scan.{Left, leaves, carried, within, broken, closes, syllable_left, syllable_at, shape_at, breaks_at}
 use Rattle.inspector.specs.ForCode.Forms.{shape_of, scanned_of, Became, Mark, Marked, MarksOf, Scans}
 use Rattle.inspector.proofs.Searches.{Sought, sought_none, sought_more, sought_at, sought_all}
 use Rattle.syllable.specs.declared.Syllable.{Syllable}

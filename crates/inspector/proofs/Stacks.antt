@@ -1,17 +1,16 @@
 -- A shape held as a list of item numbers and a height: taking, putting and exchanging items.
 use Prim.Native.Nat.{ℕ, zero, suc, ◌+◌, ◌-◌, ◌≤◌, ◌<◌}
 use mathlib.Core.Path.{◌≡◌, refl, sym, ◌∙◌, ap, subst}
-use mathlib.Core.Bool.{Bool, true, false}
+use mathlib.Core.Bool.{Bool}
 use mathlib.Core.List.{List, [], ◌∷◌}
 use native.Mathlib.Omega.{arith}
 use borrow.Author.Tests.{le-leb, lt-leb}
-use lib.Dec.{leb}
 use lib.ListN.{length, get_or, drop, set, length-set, get_or-eq_default}
 use lib.Seq.{get_or-set_same, get_or-set_other, lt-length-set}
 use Rattle.inspector.specs.declared.shapes.Effect.{Effect}
 use Rattle.inspector.specs.declared.shapes.Effect.TheVariants.{Drops, Puts, Swaps, Breaks}
 use Rattle.inspector.specs.declared.shapes.Scanned.TheVariants.{Height, Broken}
-use Rattle.inspector.specs.Scan.{Item, Shape, Left, leaves, breaks, when, within, exchanged}
+use Rattle.inspector.specs.Scan.{Shape, leaves, breaks, when, within, exchanged}
 use Rattle.inspector.specs.ForCode.Forms.{item_of, shape_of, Seen, none, one, two, more, effected, scanned_of, Became}
 
 pub length_shape : (items : List ℕ) (h : ℕ) → length (shape_of items h) ≡ h

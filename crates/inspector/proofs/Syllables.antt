@@ -1,7 +1,7 @@
 -- Syllables by their operator numbers: what each range of numbers does to a shape, which close the code, and how the code reads one.
 use Prim.Native.Nat.{ℕ, zero, suc, ◌+◌, ◌-◌, ◌*◌, ◌/◌, ◌%◌, ◌^◌, ◌≤◌, ◌<◌, zero-le}
 use mathlib.Core.Path.{◌≡◌, refl, sym, ◌∙◌, ap, subst}
-use mathlib.Core.Bool.{Bool, true, false, not, ◌&&◌, ◌||◌}
+use mathlib.Core.Bool.{Bool, true, false, ◌||◌}
 use mathlib.Core.List.{List, [], ◌∷◌}
 use native.Mathlib.Nat.{le_of_suc-le-suc, not-suc-le-zero, mod-lt}
 use native.Mathlib.Omega.{arith}
@@ -9,7 +9,7 @@ use borrow.Author.Tests.{eqb-true, eqb-false, ne_eqb, ltb-true, ltb-false}
 use lib.Dec.{eqb, ltb}
 use lib.ListN.{length, get_or}
 use Rattle.inspector.specs.Turns.{turn_of}
-use Rattle.inspector.specs.Scan.{Shape, Left, leaves, breaks, two_values, one_value, branched, branched_if, syllable_left, closes}
+use Rattle.inspector.specs.Scan.{Shape, Left, breaks, two_values, one_value, branched, branched_if, syllable_left, closes}
 use Rattle.syllable.specs.declared.Operator.{Operator}
 use Rattle.syllable.specs.declared.Operator.TheVariants.{NotBuilt}
 use Rattle.syllable.specs.declared.Syllable.{Syllable}

@@ -2,13 +2,13 @@
 use Prim.Native.Nat.{ℕ, zero, suc, ◌+◌, ◌-◌, ◌≤◌, ◌<◌}
 use mathlib.Core.Path.{◌≡◌, refl, sym, ◌∙◌, ap}
 use mathlib.Core.Bool.{Bool, true, false, not}
-use mathlib.Core.List.{List, [], ◌∷◌}
+use mathlib.Core.List.{List, ◌∷◌}
 use native.Mathlib.Omega.{arith}
-use borrow.Author.Tests.{lt-ltb, le-ltb, eq-eqb, ne_eqb, eqb-true, eqb-false}
-use lib.Dec.{eqb, ltb}
-use lib.ListN.{length, get_or}
+use borrow.Author.Tests.{lt-ltb, le-ltb, ne_eqb}
+use lib.Dec.{eqb}
+use lib.ListN.{get_or}
 use Rattle.sheet.specs.Sheets.{cell_of}
-use Rattle.inspector.specs.Scan.{Item, literal, number, place, Shape, Left, leaves, breaks, writable, within, called_over, syllable_left}
+use Rattle.inspector.specs.Scan.{Item, literal, number, place, Shape, Left, leaves, writable, within, called_over, syllable_left}
 use Rattle.inspector.specs.Targets.{is_empty, distance}
 use Rattle.inspector.specs.ForCode.Forms.{item_of, shape_of, Seen, effected, Cells, Knows, Became, Mark, far_of}
 use Rattle.inspector.specs.declared.shapes.Effect.{Effect}

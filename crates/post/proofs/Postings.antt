@@ -1,7 +1,6 @@
 -- What a posting is, by the inspector's answer and the budget; and its guarantees, from demand 3.
 use Prim.Native.Nat.{ℕ, ◌<◌, ◌≤◌}
 use mathlib.Core.Path.{◌≡◌, refl, sym, ◌∙◌, ap}
-use mathlib.Core.Logic.{◌≢◌}
 use mathlib.Core.Bool.{Bool, true, false, true≢false}
 use mathlib.Core.List.{List}
 use native.Mathlib.Omega.{arith}
@@ -17,7 +16,6 @@ use Rattle.sheet.specs.Sheets.{code_of, s_of, r_of}
 use Rattle.inspector.specs.Verdicts.{given, verdict_of}
 use Rattle.laws.proofs.FitRuns.{run_fit}
 use Rattle.demands.specs.Stays.{start_of}
-use Rattle.demands.specs.Leaves.{Leaves}
 use Rattle.demands.proofs.Checked.{run_leaves, start_passes}
 use Rattle.demands.proofs.Demand3.{demand3}
 use Rattle.demands.proofs.Exact.{zero_given}

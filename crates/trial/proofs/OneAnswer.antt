@@ -5,8 +5,7 @@ use Rattle.word.proofs.Sole.{sole, sole_said}
 use Rattle.trial.specs.declared.trials.Sum.{Sum}
 use Rattle.trial.specs.declared.trials.Outcome.{Outcome}
 use Rattle.trial.specs.declared.trials.Outcome.TheVariants.{Refused, Ended}
-use Rattle.trial.specs.Trials.{says_outcome, Told}
-use Rattle.trial.specs.Lines.{Written}
+use Rattle.trial.specs.Trials.{says_outcome}
 use Rattle.trial.proofs.trials.trial.Reads as trial
 use Rattle.trial.proofs.trials.run_from_start.Reads as run_from_start
 use Rattle.trial.proofs.lines.line.Reads as line

@@ -1,6 +1,5 @@
 use borrow.Author.Rules.{rules}
 use mathlib.Core.Path.{refl}
-use Prim.Native.Nat.{◌-◌}
 use Rattle.inspector.proofs.Paints.{filled_none, filled_more, filled_all}
 use Rattle.inspector.proofs.cells.fill.Goals as goal
 

@@ -1,4 +1,4 @@
-use Prim.Native.Nat.{◌-◌, ◌≤◌}
+use Prim.Native.Nat.{◌≤◌}
 use Rattle.sheet.specs.Sheets.{entries}
 use Rattle.inspector.proofs.Paints.{Filled}
 use Rattle.inspector.proofs.cells.fill.Given as goal

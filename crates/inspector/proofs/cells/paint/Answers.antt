@@ -1,5 +1,4 @@
 use borrow.Author.Rules.{rules}
-use Prim.Native.Nat.{◌-◌}
 use Rattle.inspector.proofs.Paints.{paint_none, paint_more, paint_all}
 use Rattle.inspector.proofs.cells.paint.Goals as goal
 

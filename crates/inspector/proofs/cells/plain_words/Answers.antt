@@ -1,6 +1,5 @@
 use borrow.Author.Rules.{rules}
 use mathlib.Core.Path.{sym, ◌∙◌}
-use Prim.Native.Nat.{◌-◌}
 use Rattle.inspector.proofs.Arrays.{plain_none, plain_more, plain_not, plain_all}
 use Rattle.inspector.proofs.cells.plain_words.Goals as goal
 

@@ -1,6 +1,5 @@
 use borrow.Author.Rules.{rules}
 use mathlib.Core.Path.{sym, ◌∙◌}
-use Prim.Native.Nat.{◌-◌}
 use Rattle.inspector.proofs.Searches.{sought_none, sought_more, sought_at, sought_all}
 use Rattle.inspector.proofs.cells.unfit.Goals as goal
 

@@ -3,7 +3,6 @@ use Rattle.inspector.proofs.Syllables.{twenty_nine}
 use Rattle.inspector.specs.Scan.{number, place}
 use Rattle.inspector.specs.ForCode.Forms.{item_of, effected}
 use Rattle.inspector.proofs.Views.{literal_left, call_left}
-use Rattle.inspector.specs.Scan.{called_over, loaded, stored, communicated}
 use Rattle.inspector.proofs.Syllables.{two_at, one_at, sign_at, branch_at, branch_if_at, just, late_at}
 use native.Mathlib.Omega.{arith}
 use mathlib.Core.Path.{refl, ◌∙◌}

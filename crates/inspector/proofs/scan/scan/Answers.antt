@@ -1,6 +1,5 @@
 use borrow.Author.Rules.{rules}
 use mathlib.Core.Path.{refl, ◌∙◌}
-use Prim.Native.Nat.{◌-◌}
 use lib.ListN.{length-set}
 use native.Mathlib.Omega.{arith}
 use Rattle.inspector.proofs.Goings.{going_none, going_broken, going_unclosed, going_more, going_all}

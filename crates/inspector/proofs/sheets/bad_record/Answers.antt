@@ -1,8 +1,6 @@
 use Rattle.inspector.proofs.Records.{not_bad, is_bad}
-use Prim.Native.Nat.{◌-◌}
 use borrow.Author.Rules.{rules}
 use Rattle.inspector.proofs.Searches.{sought_none, sought_more, sought_at, sought_all}
-use Rattle.inspector.specs.Records.{record_good}
 use Rattle.inspector.proofs.sheets.bad_record.Goals as goal
 
 pub loop-i-init : goal.loop-i-init

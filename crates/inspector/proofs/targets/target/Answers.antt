@@ -1,6 +1,5 @@
 use borrow.Author.Rules.{rules}
 use mathlib.Core.Path.{◌∙◌}
-use Prim.Native.Nat.{◌-◌}
 use native.Mathlib.Omega.{arith}
 use Rattle.inspector.proofs.Searches.{sought_none, sought_more, sought_at, sought_all}
 use Rattle.inspector.proofs.Aims.{target_as}

@@ -1,5 +1,4 @@
 use Rattle.trial.proofs.Texts.{leading_none, leading_more, leading_found, leading_end}
-use Prim.Native.Nat.{◌-◌}
 use native.Mathlib.Omega.{arith}
 use borrow.Author.Rules.{rules}
 use Rattle.trial.proofs.lines.leading.Goals as goal

@@ -1,7 +1,6 @@
 use lib.ListN.{length-set}
 use Rattle.trial.proofs.Texts.{spell_none, spell_more, spell_end, spell_next}
 use mathlib.Core.Path.{refl, sym, ◌∙◌}
-use Prim.Native.Nat.{◌-◌}
 use native.Mathlib.Omega.{arith}
 use borrow.Author.Rules.{rules}
 use Rattle.trial.proofs.lines.spell.Goals as goal

@@ -1,7 +1,6 @@
 use Rattle.machine.specs.Runs.{Run}
 use Rattle.trial.specs.Trials.{summary_of}
 use mathlib.Core.Path.{ap}
-use Prim.Native.Nat.{◌-◌}
 use Rattle.trial.proofs.trials.run_from_start.Goals as goal
 
 pub returns : goal.returns

@@ -1,4 +1,3 @@
-use Prim.Native.Nat.{◌-◌}
 use Rattle.wording.proofs.Texts.{same_short, same_differ, same_more, same_end}
 use mathlib.Core.Path.{refl}
 use native.Mathlib.Omega.{arith}

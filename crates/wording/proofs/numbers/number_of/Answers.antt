@@ -1,4 +1,3 @@
-use Prim.Native.Nat.{◌-◌}
 use Rattle.wording.proofs.FromTexts.{read_none, read_start, read_low, read_high, read_more, read_in, read_over, product, capped_small}
 use native.Mathlib.Omega.{arith}
 use borrow.Author.Rules.{rules}
