@@ -6,13 +6,13 @@ use mathlib.Core.List.{List, [], ◌∷◌}
 use native.Mathlib.Omega.{arith}
 use borrow.Author.Tests.{lt-ltb, eq-eqb, eqb-true}
 use mir.Val.{bool_byte}
-use lib.Dec.{ltb, eqb}
-use lib.ListN.{length, get_or}
+use lib.Dec.{eqb}
+use lib.ListN.{length}
 use Rattle.machine.specs.declared.outcome.Registers.{Registers}
 use Rattle.word.specs.Core.{words_fit}
 use Rattle.tape.specs.Files.{words_of, FileRead}
 use Rattle.tape.proofs.Numbers.{whole_read}
-use Rattle.tape.proofs.Words.{words_length, read_yes}
+use Rattle.tape.proofs.Words.{read_yes}
 use Rattle.laws.specs.Fit.{Word, Holds, InRange as RangedSet}
 use Rattle.word.specs.Choices.{if◌then◌else◌}
 use Rattle.cabinet.specs.Lengths.{core_number_of}

@@ -55,12 +55,7 @@ pub fn fifty_five_step(core: &mut [u8], regs: &mut [u8]) -> u64
 }
 
 // Syllables until a stop or until the budget is spent. The checks are 4, 1, 3, 5 in this order; then the machine answers.
-pub fn fifty_five_run(
-    core: &mut [u8],
-    regs: &mut [u8],
-    budget: u64,
-    completed: &mut u64,
-) -> u64
+pub fn fifty_five_run(core: &mut [u8], regs: &mut [u8], budget: u64, completed: &mut u64) -> u64
     ensures { run_bytes result core.new regs.new completed.new ≡ run_bytes_of core.old regs.old budget }
 {
     let n = core.len();
@@ -74,13 +69,7 @@ pub fn fifty_five_run(
 }
 
 // Where the words of an array cell stand: the first of them and how many. The checks are 4, 1, 3, 36 in this order, each with 0 and 0.
-pub fn fifty_five_hand_out(
-    core: &[u8],
-    r: u64,
-    cell: u64,
-    start: &mut u64,
-    count: &mut u64,
-) -> u64
+pub fn fifty_five_hand_out(core: &[u8], r: u64, cell: u64, start: &mut u64, count: &mut u64) -> u64
     ensures { handed result start.new count.new ≡ handed_bytes_of core.now r cell }
 {
     let n = core.len();
