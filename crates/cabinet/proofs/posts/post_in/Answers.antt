@@ -1,4 +1,4 @@
--- The laws are post-ran and post-kept.
+-- The laws are `post_ran` and `post_kept`.
 use Rattle.cabinet.proofs.Postings.{post_ran, post_kept}
 use Rattle.cabinet.proofs.posts.post_in.Goals as goal
 

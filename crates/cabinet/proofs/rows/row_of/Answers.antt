@@ -1,4 +1,4 @@
--- The text of rowOf, mark by mark.
+-- The text of row_of, mark by mark.
 use Rattle.cabinet.proofs.Sets.{row_made}
 use Rattle.cabinet.proofs.rows.row_of.Goals as goal
 

@@ -1,4 +1,4 @@
--- Six bytes, each below 256, say a word: the law is six-said.
+-- Six bytes, each below 256, say a word: the law is `six_said`.
 use Rattle.tape.proofs.Words.{six_said}
 use Rattle.tape.proofs.reading.six.Goals as goal
 

@@ -1,4 +1,4 @@
--- The six stores are the digits to the base 256: the law is six-stored.
+-- The six stores are the digits to the base 256: the law is `six_stored`.
 use native.Mathlib.Omega.{arith}
 use lib.ListN.{length-set}
 use Rattle.tape.proofs.Bytes.{six_stored}
