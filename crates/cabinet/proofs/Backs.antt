@@ -12,7 +12,7 @@ use Rattle.word.specs.Core.{length_fits, words_fit}
 use Rattle.machine.specs.declared.outcome.Registers.{Registers}
 use Rattle.machine.specs.declared.outcome.Answer.{Answer}
 use Rattle.machine.specs.declared.outcome.Ran.{Ran}
-use Rattle.word.specs.Choices.{if◌then◌else◌}
+use Rattle.word.specs.Choices.{if◌then◌otherwise◌}
 use Rattle.machine.specs.States.{state_of}
 use Rattle.machine.specs.Steps.{registers_fit, refusal_of, Stepped, ended_as, execute_of, step_of, answered}
 use Rattle.machine.specs.Runs.{Run, ends_at, run_from, run_of, ran_of}
@@ -35,10 +35,10 @@ use Rattle.cabinet.specs.ForCode.Rooms.{Room, written_back, narrow_set}
 -- ---- a number that does not refuse
 
 refusal_refuses : (core : List ℕ) (g : Registers) → (refusal_of core g ≡ 0 → ⊥) → refuses (refusal_of core g) ≡ true
-unfolding refusal_of if◌then◌else◌
+unfolding refusal_of if◌then◌otherwise◌
 refusal_refuses core g n = by (length_fits core) (words_fit core) (registers_fit g) n
   where
-    by : (a b c : Bool) → (◌≡◌ {A = ℕ} (if a then (if b then (if c then 0 else 3) else 2) else 1) 0 → ⊥) → refuses (if a then (if b then (if c then 0 else 3) else 2) else 1) ≡ true
+    by : (a b c : Bool) → (◌≡◌ {A = ℕ} (if a then (if b then (if c then 0 otherwise 3) otherwise 2) otherwise 1) 0 → ⊥) → refuses (if a then (if b then (if c then 0 otherwise 3) otherwise 2) otherwise 1) ≡ true
     by true true true n = absurd (n refl)
     by true true false n = refl
     by true false c n = refl
@@ -49,30 +49,30 @@ refused_not core g e f =
     absurd (true≢false (sym (refusal_refuses core g (λ z. true≢false (sym (eq-eqb (refusal_of core g) 0 z) ∙ e))) ∙ f))
 
 step_accepted : (core : List ℕ) (g : Registers) → refuses (step_of core g).number ≡ false → refusal_of core g ≡ 0
-unfolding step_of if◌then◌else◌
+unfolding step_of if◌then◌otherwise◌
 step_accepted core g f = by (eqb (refusal_of core g) 0) refl f
   where
     by : (b : Bool) → eqb (refusal_of core g) 0 ≡ b
-        → refuses (if b then ended_as (execute_of (state_of core g)) (state_of core g) else record { number = refusal_of core g; core = core; regs = g }).number ≡ false → refusal_of core g ≡ 0
+        → refuses (if b then ended_as (execute_of (state_of core g)) (state_of core g) otherwise record { number = refusal_of core g; core = core; regs = g }).number ≡ false → refusal_of core g ≡ 0
     by true e f = eqb-true (refusal_of core g) 0 e
     by false e f = refused_not core g e f
 
 run_accepted : (core : List ℕ) (g : Registers) (budget : ℕ) → refuses (run_of core g budget).stop ≡ false → refusal_of core g ≡ 0
-unfolding run_of if◌then◌else◌
+unfolding run_of if◌then◌otherwise◌
 run_accepted core g budget f = by (eqb (refusal_of core g) 0) refl f
   where
     by : (b : Bool) → eqb (refusal_of core g) 0 ≡ b
-        → refuses (if b then (if leb budget 1000000 then run_from budget (state_of core g) else ends_at 5 0 (state_of core g)) else ends_at (refusal_of core g) 0 (state_of core g)).stop ≡ false → refusal_of core g ≡ 0
+        → refuses (if b then (if leb budget 1000000 then run_from budget (state_of core g) otherwise ends_at 5 0 (state_of core g)) otherwise ends_at (refusal_of core g) 0 (state_of core g)).stop ≡ false → refusal_of core g ≡ 0
     by true e f = eqb-true (refusal_of core g) 0 e
     by false e f = refused_not core g e f
 
 -- ---- what is written
 
 pub fit_parts : (core : List ℕ) (g : Registers) → refusal_of core g ≡ 0 → (length_fits core ≡ true) × (words_fit core ≡ true)
-unfolding refusal_of if◌then◌else◌
+unfolding refusal_of if◌then◌otherwise◌
 fit_parts core g e = by (length_fits core) (words_fit core) (registers_fit g) e
   where
-    by : (a b c : Bool) → ◌≡◌ {A = ℕ} (if a then (if b then (if c then 0 else 3) else 2) else 1) 0 → (a ≡ true) × (b ≡ true)
+    by : (a b c : Bool) → ◌≡◌ {A = ℕ} (if a then (if b then (if c then 0 otherwise 3) otherwise 2) otherwise 1) 0 → (a ≡ true) × (b ≡ true)
     by true true c e = (refl, refl)
     by true false c e = absurd (omega arith)
     by false b c e = absurd (omega arith)
@@ -91,17 +91,17 @@ row_written words regs g e l =
 -- Either nothing, or the state of a number that does not refuse.
 pub left_back : (n : ℕ) (words core regs : List ℕ) (g : Registers) → (refuses n ≡ false → (refusal_of words g ≡ 0) × (length core ≡ 6 * length words)) → length regs ≡ 66
     → written_back n words g core regs ≡ step_back_of (record { number = n; core = words; regs = g }) core regs
-unfolding written_back step_back_of if◌then◌else◌
+unfolding written_back step_back_of if◌then◌otherwise◌
 left_back n words core regs g h r = by (refuses n) h
   where
     by : (b : Bool) → (b ≡ false → (refusal_of words g ≡ 0) × (length core ≡ 6 * length words))
-        → (if b then step_bytes n core regs else step_bytes n (write_file_of words core) (write_file_of (row_of g) regs)) ≡ (if b then step_bytes n core regs else step_bytes n (bytes_of words) (bytes_of (row_of g)))
+        → (if b then step_bytes n core regs otherwise step_bytes n (write_file_of words core) (write_file_of (row_of g) regs)) ≡ (if b then step_bytes n core regs otherwise step_bytes n (bytes_of words) (bytes_of (row_of g)))
     by true h = refl
     by false h = rw (core_written words core g (h refl).0 (h refl).1, row_written words regs g (h refl).0 r)
 
 pub hands_back : (n : ℕ) (words core regs : List ℕ) (g : Registers) {core' regs' row : List ℕ} → refuses n ≡ false → core' ≡ write_file_of words core → row ≡ row_of g → regs' ≡ write_file_of row regs
     → step_bytes n core' regs' ≡ written_back n words g core regs
-unfolding written_back if◌then◌else◌
+unfolding written_back if◌then◌otherwise◌
 hands_back n words core regs g f c r e = rw (f, c, e, r)
 
 -- ---- a step and a run, handed back
@@ -144,11 +144,11 @@ module _ (old core regs : List ℕ) (room : Room old core regs) {words : List �
   read_length = room.exact ∙ ap (λ (k : ℕ). 6 * k) (sym (ap length read_words ∙ words_length (length old) core))
 
 step_away : (words core regs : List ℕ) (g : Registers) → (refusal_of words g ≡ 0 → ⊥) → step_back_of (step_of words g) core regs ≡ step_bytes (refusal_of words g) core regs
-unfolding step_of step_back_of if◌then◌else◌
+unfolding step_of step_back_of if◌then◌otherwise◌
 step_away words core regs g n = rw (ne_eqb (refusal_of words g) 0 n, refusal_refuses words g n)
 
 run_away : (words core regs : List ℕ) (budget : ℕ) (g : Registers) → (refusal_of words g ≡ 0 → ⊥) → run_back_of (run_of words g budget) core regs ≡ run_bytes (refusal_of words g) core regs 0
-unfolding run_of run_back_of step_back_of if◌then◌else◌
+unfolding run_of run_back_of step_back_of if◌then◌otherwise◌
 run_away words core regs budget g n = rw (ne_eqb (refusal_of words g) 0 n, refusal_refuses words g n)
 
 module _ (old core regs : List ℕ) (room : Room old core regs) {words : List ℕ} {n : ℕ} (read : FileRead core old words n) (g : Registers) {h : Registers} (narrow : h ≡ narrow_set g) where
@@ -191,18 +191,18 @@ module _ (all core : List ℕ) (full : length all ≡ 32768) (w : Whole (length 
 
 module _ (all core regs : List ℕ) (full : length all ≡ 32768) (z : row_number_of (length core) regs ≡ 0) where
   pub step_came : {x : StepBytes} → x ≡ step_back_of (step_of (words_of (length (take (length core / 6) all)) core) (set_of (words_of 11 regs))) core regs → x ≡ step_bytes_of core regs
-  unfolding step_bytes_of if◌then◌else◌
+  unfolding step_bytes_of if◌then◌otherwise◌
   step_came e = e ∙ rw (whole_length all core full (row_good (length core) regs z).core, eq-eqb (row_number_of (length core) regs) 0 z)
 
   pub run_came : (budget : ℕ) {x : RunBytes} → x ≡ run_back_of (run_of (words_of (length (take (length core / 6) all)) core) (set_of (words_of 11 regs)) budget) core regs → x ≡ run_bytes_of core regs budget
-  unfolding run_bytes_of if◌then◌else◌
+  unfolding run_bytes_of if◌then◌otherwise◌
   run_came budget e = e ∙ rw (whole_length all core full (row_good (length core) regs z).core, eq-eqb (row_number_of (length core) regs) 0 z)
 
 module _ (core regs : List ℕ) {n : ℕ} (e : n ≡ row_number_of (length core) regs) (z : n ≡ 0 → ⊥) where
   pub step_refused : step_bytes n core regs ≡ step_bytes_of core regs
-  unfolding step_bytes_of if◌then◌else◌
+  unfolding step_bytes_of if◌then◌otherwise◌
   step_refused = rw (← e, ne_eqb n 0 z)
 
   pub run_refused : (budget : ℕ) → run_bytes n core regs 0 ≡ run_bytes_of core regs budget
-  unfolding run_bytes_of if◌then◌else◌
+  unfolding run_bytes_of if◌then◌otherwise◌
   run_refused budget = rw (← e, ne_eqb n 0 z)

@@ -6,7 +6,7 @@ use mathlib.Core.List.{List}
 use native.Mathlib.Omega.{arith}
 use borrow.Author.Tests.{eq-eqb, eqb-true, le-leb, le-ltb, leb-false}
 use lib.Dec.{eqb, ltb, leb}
-use Rattle.word.specs.Choices.{if◌then◌else◌}
+use Rattle.word.specs.Choices.{if◌then◌otherwise◌}
 use Rattle.machine.specs.declared.outcome.Registers.{Registers}
 use Rattle.machine.specs.States.{state_of}
 use Rattle.machine.specs.Steps.{registers_fit, refusal_of}
@@ -15,15 +15,15 @@ use Rattle.laws.proofs.FitChecks.{fit_refusal}
 use Rattle.cabinet.specs.ForCode.Rooms.{narrow_of, narrow_set}
 
 narrow_ltb : (most k x : ℕ) → k ≤ most → ltb (narrow_of most x) k ≡ ltb x k
-unfolding narrow_of if◌then◌else◌
+unfolding narrow_of if◌then◌otherwise◌
 narrow_ltb most k x h = by (leb x most) refl
   where
-    by : (b : Bool) → leb x most ≡ b → ltb (if b then x else most) k ≡ ltb x k
+    by : (b : Bool) → leb x most ≡ b → ltb (if b then x otherwise most) k ≡ ltb x k
     by true e = refl
     by false e = le-ltb most k h ∙ sym (le-ltb x k (omega (arith, leb-false x most e)))
 
 narrow_kept : (most x : ℕ) → x ≤ most → narrow_of most x ≡ x
-unfolding narrow_of if◌then◌else◌
+unfolding narrow_of if◌then◌otherwise◌
 narrow_kept most x h = rw (le-leb x most h)
 
 narrow_refusal : (words : List ℕ) (g : Registers) → refusal_of words (narrow_set g) ≡ refusal_of words g

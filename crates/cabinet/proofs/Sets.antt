@@ -14,7 +14,7 @@ use Rattle.tape.specs.Files.{words_of, FileRead}
 use Rattle.tape.proofs.Numbers.{whole_read}
 use Rattle.tape.proofs.Words.{read_yes}
 use Rattle.laws.specs.Fit.{Word, Holds, InRange as RangedSet}
-use Rattle.word.specs.Choices.{if◌then◌else◌}
+use Rattle.word.specs.Choices.{if◌then◌otherwise◌}
 use Rattle.cabinet.specs.Lengths.{core_number_of}
 use Rattle.cabinet.specs.Rows.{row_of, marks_fit, lengths_number_of, row_number_of}
 use Rattle.cabinet.proofs.Counts.{Whole, core_whole}
@@ -38,19 +38,19 @@ pub record Good (n : ℕ) (regs : List ℕ) : Type 0 where
   pub row : length regs ≡ 66
 
 pub lengths_good : (n : ℕ) (regs : List ℕ) → lengths_number_of n (length regs) ≡ 0 → Good n regs
-unfolding lengths_number_of if◌then◌else◌
+unfolding lengths_number_of if◌then◌otherwise◌
 lengths_good n regs e = by (eqb (core_number_of n) 0) (eqb (length regs) 66) refl refl e
   where
-    by : (a b : Bool) → eqb (core_number_of n) 0 ≡ a → eqb (length regs) 66 ≡ b → ◌≡◌ {A = ℕ} (if a then (if b then 0 else 3) else core_number_of n) 0 → Good n regs
+    by : (a b : Bool) → eqb (core_number_of n) 0 ≡ a → eqb (length regs) 66 ≡ b → ◌≡◌ {A = ℕ} (if a then (if b then 0 otherwise 3) otherwise core_number_of n) 0 → Good n regs
     by true true p q e = record { core = core_whole n (eqb-true (core_number_of n) 0 p); row = eqb-true (length regs) 66 q }
     by true false p q e = absurd (omega arith)
     by false b p q e = absurd (true≢false (sym (eq-eqb (core_number_of n) 0 e) ∙ p))
 
 pub row_good : (n : ℕ) (regs : List ℕ) → row_number_of n regs ≡ 0 → Good n regs
-unfolding row_number_of if◌then◌else◌
+unfolding row_number_of if◌then◌otherwise◌
 row_good n regs e = by (eqb (lengths_number_of n (length regs)) 0) (marks_fit (words_of 11 regs)) refl e
   where
-    by : (a b : Bool) → eqb (lengths_number_of n (length regs)) 0 ≡ a → ◌≡◌ {A = ℕ} (if a then (if b then 0 else 3) else lengths_number_of n (length regs)) 0 → Good n regs
+    by : (a b : Bool) → eqb (lengths_number_of n (length regs)) 0 ≡ a → ◌≡◌ {A = ℕ} (if a then (if b then 0 otherwise 3) otherwise lengths_number_of n (length regs)) 0 → Good n regs
     by true b p e = lengths_good n regs (eqb-true (lengths_number_of n (length regs)) 0 p)
     by false b p e = lengths_good n regs e
 

@@ -4,7 +4,7 @@ use mathlib.Core.Path.{◌≡◌, ◌∙◌, ap}
 use mathlib.Core.List.{List}
 use borrow.Author.Tests.{eq-eqb, ne_eqb}
 use lib.ListN.{length, take}
-use Rattle.word.specs.Choices.{if◌then◌else◌}
+use Rattle.word.specs.Choices.{if◌then◌otherwise◌}
 use Rattle.inspector.specs.declared.verdict.Verdict.{Verdict}
 use Rattle.inspector.specs.Verdicts.{given, verdict_of}
 use Rattle.tape.specs.Files.{words_of, FileRead}
@@ -20,10 +20,10 @@ verdict_read old core sheet room read e =
 
 pub verdict_good : (all core sheet : List ℕ) {v : Verdict} → length all ≡ 32768 → core_number_of (length core) ≡ 0
     → v ≡ verdict_of (words_of (length (take (length core / 6) all)) core) sheet → v ≡ inspect_bytes_of core sheet
-unfolding inspect_bytes_of if◌then◌else◌
+unfolding inspect_bytes_of if◌then◌otherwise◌
 verdict_good all core sheet full good e =
     e ∙ rw (core_part all core full good, eq-eqb (core_number_of (length core)) 0 good)
 
 pub verdict_bad : (core sheet : List ℕ) {n : ℕ} → n ≡ core_number_of (length core) → (n ≡ 0 → ⊥) → given n 0 ≡ inspect_bytes_of core sheet
-unfolding inspect_bytes_of if◌then◌else◌
+unfolding inspect_bytes_of if◌then◌otherwise◌
 verdict_bad core sheet e h = rw (ne_eqb (core_number_of (length core)) 0 (λ z. h (e ∙ z)), e)

@@ -1,6 +1,6 @@
 -- The array call: where the words stand that an array cell names.
 use Rattle.std.specs.Prelude.{ℕ, ◌/◌, List, eqb, length}
-use Rattle.word.specs.Choices.{if◌then◌else◌}
+use Rattle.word.specs.Choices.{if◌then◌otherwise◌}
 use Rattle.handout.specs.HandOut.{hand_out_number, stretch_start, stretch_count}
 use Rattle.tape.specs.Files.{words_of}
 use Rattle.cabinet.specs.Lengths.{core_number_of}
@@ -22,4 +22,4 @@ handed_of words r cell = handed (hand_out_number words r cell) (stretch_start wo
 unfoldable pub handed_bytes_of : List ℕ → ℕ → ℕ → Handed
 handed_bytes_of core r cell =
     if eqb (core_number_of (length core)) 0 then handed_of (words_of (length core / 6) core) r cell
-    else handed (core_number_of (length core)) 0 0
+    otherwise handed (core_number_of (length core)) 0 0

@@ -1,6 +1,6 @@
 -- The inspection: the inspector's answer over bytes.
 use Rattle.std.specs.Prelude.{ℕ, ◌/◌, List, eqb, length}
-use Rattle.word.specs.Choices.{if◌then◌else◌}
+use Rattle.word.specs.Choices.{if◌then◌otherwise◌}
 use Rattle.inspector.specs.declared.verdict.Verdict.{Verdict}
 use Rattle.inspector.specs.Verdicts.{given, verdict_of}
 use Rattle.tape.specs.Files.{words_of}
@@ -10,4 +10,4 @@ use Rattle.cabinet.specs.Lengths.{core_number_of}
 unfoldable pub inspect_bytes_of : List ℕ → List ℕ → Verdict
 inspect_bytes_of core sheet =
     if eqb (core_number_of (length core)) 0 then verdict_of (words_of (length core / 6) core) sheet
-    else given (core_number_of (length core)) 0
+    otherwise given (core_number_of (length core)) 0

@@ -1,6 +1,6 @@
 -- What posting a segment over bytes answers, the bytes that it leaves, and what these guarantee.
 use Rattle.std.specs.Prelude.{ℕ, ◌/◌, ◌≡◌, ◌≢◌, List, eqb, length}
-use Rattle.word.specs.Choices.{if◌then◌else◌}
+use Rattle.word.specs.Choices.{if◌then◌otherwise◌}
 use Rattle.tape.specs.Files.{words_of, bytes_of}
 use Rattle.demands.specs.Leaves.{Leaves}
 use Rattle.post.specs.Posting.{Posting, post_of}
@@ -23,13 +23,13 @@ post_bytes n core regs place stop completed =
 unfoldable pub post_back_of : Posting → List ℕ → List ℕ → PostBytes
 post_back_of p core regs =
     if eqb p.number 0 then post_bytes p.number (bytes_of p.core) (bytes_of (row_of p.regs)) p.place p.stop p.completed
-    else post_bytes p.number core regs p.place p.stop p.completed
+    otherwise post_bytes p.number core regs p.place p.stop p.completed
 
 -- A place, a stop and a count that there are not are 0.
 unfoldable pub post_bytes_of : List ℕ → List ℕ → ℕ → List ℕ → PostBytes
 post_bytes_of core sheet budget regs =
     if eqb (lengths_number_of (length core) (length regs)) 0 then post_back_of (post_of (words_of (length core / 6) core) sheet budget) core regs
-    else post_bytes (lengths_number_of (length core) (length regs)) core regs 0 0 0
+    otherwise post_bytes (lengths_number_of (length core) (length regs)) core regs 0 0 0
 
 -- Demand 3 of the words that the bytes say: by 0, those after are what a passed segment leaves of those before; by any other number,
 -- all bytes are as they were.

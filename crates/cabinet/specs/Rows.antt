@@ -1,7 +1,7 @@
 -- A register set crosses as a row of eleven words, each of six bytes: A, a_full, B, b_full, S, F, C, R, L, SALF, MSFF.
 use Rattle.std.specs.Prelude.{ℕ, Bool, ◌&&◌, List, [], ◌∷◌, eqb, ltb, length, get_or}
 use Rattle.machine.specs.declared.outcome.Registers.{Registers}
-use Rattle.word.specs.Choices.{if◌then◌else◌}
+use Rattle.word.specs.Choices.{if◌then◌otherwise◌}
 use Rattle.word.specs.Field.{one_of}
 use Rattle.tape.specs.Files.{words_of}
 use Rattle.cabinet.specs.Lengths.{core_number_of}
@@ -20,9 +20,9 @@ marks_fit row = ltb (get_or row 1 0) 2 && ltb (get_or row 3 0) 2 && ltb (get_or 
 
 -- 4 and 1 of a core of n bytes, then 3 of a set that is not 66 bytes.
 unfoldable pub lengths_number_of : ℕ → ℕ → ℕ
-lengths_number_of n row = if eqb (core_number_of n) 0 then (if eqb row 66 then 0 else 3) else core_number_of n
+lengths_number_of n row = if eqb (core_number_of n) 0 then (if eqb row 66 then 0 otherwise 3) otherwise core_number_of n
 
 -- These, then 3 of its marks.
 unfoldable pub row_number_of : ℕ → List ℕ → ℕ
 row_number_of n regs =
-    if eqb (lengths_number_of n (length regs)) 0 then (if marks_fit (words_of 11 regs) then 0 else 3) else lengths_number_of n (length regs)
+    if eqb (lengths_number_of n (length regs)) 0 then (if marks_fit (words_of 11 regs) then 0 otherwise 3) otherwise lengths_number_of n (length regs)

@@ -32,7 +32,7 @@ use Rattle.demands.proofs.Adjusts.{read_safe, a_empty, b_full}
 use Rattle.demands.proofs.Words.{taken_safe, indexed_flag, indexed_second, indexed_presence, indexed_size, indexed_address}
 use Rattle.demands.proofs.Operators.{Does, does_when, at_a}
 use Rattle.demands.proofs.Stores.{address_safe, cell_open}
-use Rattle.word.specs.Choices.{if◌then◌else◌}
+use Rattle.word.specs.Choices.{if◌then◌otherwise◌}
 
 -- "OPDC and LOD give a number, DESC a place"
 abbrev pub called : Bool → Item
@@ -40,11 +40,11 @@ called true = place
 called false = number
 
 operand_kind : (w : ℕ) → flag_of w ≡ false → kind_of w ≡ Operand
-unfolding kind_of if◌then◌else◌
+unfolding kind_of if◌then◌otherwise◌
 operand_kind w e = rw e
 
 data_kind : (w : ℕ) → flag_of w ≡ true → bit w 1 ≡ false → kind_of w ≡ Data
-unfolding kind_of if◌then◌else◌
+unfolding kind_of if◌then◌otherwise◌
 data_kind w e f = rw (e, f)
 
 within_safe : (z : ℤ) (size : ℕ) → Safe (λ (n : ℕ). n < size) (within_of z size)
@@ -60,7 +60,7 @@ module _ (core sheet : List ℕ) (ok : Passed core sheet) (p : ℕ) where
   -- ---- a number cell
 
   left_safe : (desc : Bool) (k m : ℕ) (st : State) (xs : Shape) → cell_of sheet k ≡ 3 → m ≡ 64 * r_of sheet + k → EmptyA core sheet p xs st → length (called desc ∷ xs) ≤ room_of sheet → Safe (At core sheet p (called desc ∷ xs)) (left_of desc m (fill_a st (word_at st m)))
-  unfolding left_of if◌then◌else◌
+  unfolding left_of if◌then◌otherwise◌
   left_safe true k m st xs c e v room =
       let o : Open core sheet m = subst (λ (m : ℕ). Open core sheet m) (sym e) (cell_open core sheet ok p k c) in
       let d = data_back true 0 m in
@@ -131,7 +131,7 @@ module _ (core sheet : List ℕ) (ok : Passed core sheet) (p : ℕ) where
       safe_if (flag_of w) (λ g. absurd (true≢false (sym g ∙ f))) (λ _. goes (at_a core sheet ok p st st v.kept v.set room (plain f) v.rest)))
 
   data_safe : (desc : Bool) (k d : ℕ) → cell_of sheet k ≡ 4 → get_or core (64 * r_of sheet + k) 0 ≡ d → (st : State) (y : Item) (xs : Shape) → EmptyA core sheet p (y ∷ xs) st → length (y ∷ xs) ≤ room_of sheet → Safe (At core sheet p (called desc ∷ xs)) (data_call_of desc (fill_a st d) d)
-  unfolding data_call_of if◌then◌else◌
+  unfolding data_call_of if◌then◌otherwise◌
   data_safe true k d c q st y xs v room =
       safe_bind (indexed_safe k d c q st y xs v room)
       (λ u i. goes (record { kept = i.kept; set = i.set; room = omega arith; mid = xs; top = register_some core sheet i.on i.a; rest = i.rest }))
@@ -163,8 +163,8 @@ module _ (core sheet : List ℕ) (ok : Passed core sheet) (p : ℕ) where
       (λ u i. safe_bind (address_safe core sheet ok p here u k i.kept i.set (omega (arith, ok.cell k 3 c, ok.table_in)))
       (λ m e. array_call desc k m u y xs c e i v.room))
 
-  over : (desc : Bool) (here k : ℕ) (st : State) (y : Item) (xs : Shape) (b : Bool) → eqb (cell_of sheet k) 3 ≡ b → At core sheet p (y ∷ xs) st → Does core sheet p (if b then leaves (called desc ∷ y ∷ xs) else when (eqb (cell_of sheet k) 4 && value y) (called desc ∷ xs)) (call_k_of desc here st k)
-  unfolding if◌then◌else◌
+  over : (desc : Bool) (here k : ℕ) (st : State) (y : Item) (xs : Shape) (b : Bool) → eqb (cell_of sheet k) 3 ≡ b → At core sheet p (y ∷ xs) st → Does core sheet p (if b then leaves (called desc ∷ y ∷ xs) otherwise when (eqb (cell_of sheet k) 4 && value y) (called desc ∷ xs)) (call_k_of desc here st k)
+  unfolding if◌then◌otherwise◌
   over desc here k st y xs true e v = number_does desc here k st (y ∷ xs) (eqb-true _ _ e) v
   over desc here k st y xs false e v =
       does_when core sheet p (eqb (cell_of sheet k) 4 && value y)

@@ -21,7 +21,7 @@ use Rattle.demands.proofs.Answers.{passed}
 use Rattle.demands.proofs.Holds.{Kept}
 use Rattle.demands.proofs.Ends.{Inv, Good}
 use Rattle.demands.proofs.Segments.{start, reached, execute_good}
-use Rattle.word.specs.Choices.{if◌then◌else◌}
+use Rattle.word.specs.Choices.{if◌then◌otherwise◌}
 
 -- The start passes the checks 1, 2 and 3, and so does every state reached.
 start_fit : (core sheet : List ℕ) → Passed core sheet → Fit (start_of core sheet)
@@ -70,7 +70,7 @@ pub reached_passes : (core sheet : List ℕ) → verdict_of core sheet ≡ given
 reached_passes core sheet e n u r = (fit_refusal u.core u.regs).1 (reached_fit core sheet (passed core sheet e) n u r)
 
 pub step_leaves : (core sheet : List ℕ) → verdict_of core sheet ≡ given 0 0 → (n : ℕ) (u : State) → Reaches n (start_of core sheet) u → Leaves core sheet (step_of u.core u.regs).number (step_of u.core u.regs).core
-unfolding step_of if◌then◌else◌
+unfolding step_of if◌then◌otherwise◌
 step_leaves core sheet e n u r =
     let ok : Passed core sheet = passed core sheet e in
     let v = reached core sheet ok n u r in

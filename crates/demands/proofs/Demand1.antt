@@ -1,7 +1,7 @@
 -- Demand 1 holds.
 use borrow.Author.Tests.{eq-eqb, ne_eqb, lt-leb}
 use lib.ListN.{length}
-use Rattle.word.specs.Choices.{if◌then◌else◌}
+use Rattle.word.specs.Choices.{if◌then◌otherwise◌}
 use Rattle.machine.specs.Steps.{refusal_of, step_of}
 use Rattle.machine.specs.Runs.{run_of}
 use Rattle.laws.proofs.FitSteps.{step_kept, step_fit, step_length}
@@ -10,7 +10,7 @@ use Rattle.inspector.specs.Verdicts.{verdict_of}
 use Rattle.demands.specs.Demand1.{Demand1}
 
 pub demand1 : Demand1
-unfolding step_of run_of read_file_of write_file_of verdict_of if◌then◌else◌
+unfolding step_of run_of read_file_of write_file_of verdict_of if◌then◌otherwise◌
 demand1 =
     record {
       step_refused = λ core g h. rw (ne_eqb (refusal_of core g) 0 h);

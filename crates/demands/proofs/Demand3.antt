@@ -22,7 +22,7 @@ use Rattle.inspector.specs.Scan.{Item, Shape, shape_at, breaks_at}
 use Rattle.inspector.specs.Targets.{misses_target}
 use Rattle.inspector.specs.Verdicts.{given, verdict_of}
 use Rattle.machine.specs.Branches.{landing_of}
-use Rattle.word.specs.Choices.{if◌then◌else◌}
+use Rattle.word.specs.Choices.{if◌then◌otherwise◌}
 use Rattle.demands.specs.Stays.{start_of, Stacked, Next, Stays}
 use Rattle.demands.specs.Leaves.{Leaves}
 use Rattle.demands.specs.Sample.{sample_core, sample_sheet}
@@ -95,11 +95,11 @@ module _ (core sheet : List ℕ) where
 -- ---- the sample, computed
 
 sample_passes : verdict_of sample_core (sample_sheet 2) ≡ given 0 0
-unfolding verdict_of length_fits words_fit sheet_fits record_good astray unfit cell_of array_fits array_in plain_words breaks_at shape_at misses_target landing_of if◌then◌else◌ decode_of syllable_of
+unfolding verdict_of length_fits words_fit sheet_fits record_good astray unfit cell_of array_fits array_in plain_words breaks_at shape_at misses_target landing_of if◌then◌otherwise◌ decode_of syllable_of
 sample_passes = refl
 
 sample_refused : verdict_of sample_core (sample_sheet 1) ≡ given 34 2
-unfolding verdict_of length_fits words_fit sheet_fits record_good astray unfit cell_of array_fits array_in plain_words breaks_at shape_at misses_target landing_of if◌then◌else◌ decode_of syllable_of
+unfolding verdict_of length_fits words_fit sheet_fits record_good astray unfit cell_of array_fits array_in plain_words breaks_at shape_at misses_target landing_of if◌then◌otherwise◌ decode_of syllable_of
 sample_refused = refl
 
 pub demand3 : Demand3

@@ -4,14 +4,14 @@ use mathlib.Core.Bool.{Bool, true, false}
 use Rattle.machine.specs.declared.outcome.Cause.{Cause}
 use Rattle.machine.specs.Outcomes.{Res, on, halt, ◌>>=◌}
 use Rattle.demands.specs.Stays.{Allowed}
-use Rattle.word.specs.Choices.{if◌then◌else◌}
+use Rattle.word.specs.Choices.{if◌then◌otherwise◌}
 
 pub data Safe {A : Type 0} (P : A → Type 0) : Res A → Type 0 where
   goes : {a : A} → P a → Safe P (on a)
   stops : {n : Cause} → Allowed n → Safe P (halt n)
 
-pub safe_if : {A : Type 0} {P : A → Type 0} (b : Bool) {x y : Res A} → (b ≡ true → Safe P x) → (b ≡ false → Safe P y) → Safe P (if b then x else y)
-unfolding if◌then◌else◌
+pub safe_if : {A : Type 0} {P : A → Type 0} (b : Bool) {x y : Res A} → (b ≡ true → Safe P x) → (b ≡ false → Safe P y) → Safe P (if b then x otherwise y)
+unfolding if◌then◌otherwise◌
 safe_if true f g = f refl
 safe_if false f g = g refl
 

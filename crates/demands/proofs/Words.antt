@@ -10,7 +10,7 @@ use lib.IntN.{ℤ, nat_abs}
 use Rattle.word.specs.Field.{field, bit, placed, with_field, one_of}
 use Rattle.word.specs.Layout.{flag_of, presence_of, size_of, address_of}
 use Rattle.word.specs.Numbers.{operand_of, negative, whole_of, OrNumber, the, given_back}
-use Rattle.word.specs.Choices.{if◌then◌else◌}
+use Rattle.word.specs.Choices.{if◌then◌otherwise◌}
 use Rattle.word.proofs.Makings.{one_lt, bit_is}
 use Rattle.machine.specs.Arithmetics.{or_unwhole, taken_of, given_of, divided_of, reckon_of, relate_of, holds}
 use Rattle.syllable.specs.declared.Arithmetic.{Arithmetic}
@@ -75,8 +75,8 @@ pub taken_safe : (w : ℕ) → Safe (λ (z : ℤ). Unit {0}) (taken_of w)
 unfolding taken_of
 taken_safe w = whole_safe (whole_of w)
 
-made_safe : (b : Bool) (w : ℕ) → Off w → Safe Off (or_unwhole (if b then the w else given_back 20))
-unfolding if◌then◌else◌
+made_safe : (b : Bool) (w : ℕ) → Off w → Safe Off (or_unwhole (if b then the w otherwise given_back 20))
+unfolding if◌then◌otherwise◌
 made_safe true w h = goes h
 made_safe false w h = stops tt
 

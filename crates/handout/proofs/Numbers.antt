@@ -11,40 +11,40 @@ use Rattle.word.specs.Core.{length_fits, words_fit}
 use Rattle.word.specs.Layout.{flag_of, presence_of, size_of, address_of, array_in}
 use Rattle.word.specs.Field.{bit}
 use Rattle.handout.specs.HandOut.{cell_word, cell_fits, hand_out_number, stretch_start, stretch_count}
-use Rattle.word.specs.Choices.{if◌then◌else◌}
+use Rattle.word.specs.Choices.{if◌then◌otherwise◌}
 use Rattle.word.specs.Addresses.{cell_address}
 
 module _ (core : List ℕ) (r cell : ℕ) where
   pub number_length : length_fits core ≡ false → 1 ≡ hand_out_number core r cell
-  unfolding hand_out_number if◌then◌else◌
+  unfolding hand_out_number if◌then◌otherwise◌
   number_length l = rw l
 
   pub number_words : length_fits core ≡ true → words_fit core ≡ false → 2 ≡ hand_out_number core r cell
-  unfolding hand_out_number if◌then◌else◌
+  unfolding hand_out_number if◌then◌otherwise◌
   number_words l w = rw (l, w)
 
   pub number_r : length_fits core ≡ true → words_fit core ≡ true → 512 ≤ r → 3 ≡ hand_out_number core r cell
-  unfolding hand_out_number if◌then◌else◌
+  unfolding hand_out_number if◌then◌otherwise◌
   number_r l w h = rw (l, w, le-ltb r 512 h)
 
   pub number_cell : length_fits core ≡ true → words_fit core ≡ true → r < 512 → 1024 ≤ cell → 3 ≡ hand_out_number core r cell
-  unfolding hand_out_number if◌then◌else◌
+  unfolding hand_out_number if◌then◌otherwise◌
   number_cell l w h k = rw (l, w, lt-ltb r 512 h, le-ltb cell 1024 k)
 
   pub number_out : length_fits core ≡ true → words_fit core ≡ true → r < 512 → cell < 1024 → length core ≤ cell_address r cell → 36 ≡ hand_out_number core r cell
-  unfolding hand_out_number cell_fits if◌then◌else◌
+  unfolding hand_out_number cell_fits if◌then◌otherwise◌
   number_out l w h k o =
       rw (l, w, lt-ltb r 512 h, lt-ltb cell 1024 k, le-ltb (cell_address r cell) (length core) o)
 
   pub number_unfit : length_fits core ≡ true → words_fit core ≡ true → r < 512 → cell < 1024 → cell_address r cell < length core → array_in (length core) (cell_word core r cell) ≡ false
       → 36 ≡ hand_out_number core r cell
-  unfolding hand_out_number cell_fits if◌then◌else◌
+  unfolding hand_out_number cell_fits if◌then◌otherwise◌
   number_unfit l w h k o f =
       rw (l, w, lt-ltb r 512 h, lt-ltb cell 1024 k, lt-ltb (cell_address r cell) (length core) o, f)
 
   pub number_fits : length_fits core ≡ true → words_fit core ≡ true → r < 512 → cell < 1024 → cell_address r cell < length core → array_in (length core) (cell_word core r cell) ≡ true
       → 0 ≡ hand_out_number core r cell
-  unfolding hand_out_number cell_fits if◌then◌else◌
+  unfolding hand_out_number cell_fits if◌then◌otherwise◌
   number_fits l w h k o f =
       rw (l, w, lt-ltb r 512 h, lt-ltb cell 1024 k, lt-ltb (cell_address r cell) (length core) o, f)
 
@@ -59,11 +59,11 @@ no n e = absurd (omega arith)
 
 module _ (core : List ℕ) (r cell : ℕ) where
   pub number_named : hand_out_number core r cell ≡ 0 → Named core r cell
-  unfolding hand_out_number cell_fits array_in if◌then◌else◌
+  unfolding hand_out_number cell_fits array_in if◌then◌otherwise◌
   number_named e = by (length_fits core) (words_fit core) (ltb r 512 && ltb cell 1024) _ (flag_of (cell_word core r cell) && not (bit (cell_word core r cell) 1) && presence_of (cell_word core r cell)) _ _ refl refl refl e
     where
       by : (a b c d f g h : Bool) → ltb (cell_address r cell) (length core) ≡ d → ltb 0 (size_of (cell_word core r cell)) ≡ g → leb (address_of (cell_word core r cell) + size_of (cell_word core r cell)) (length core) ≡ h
-          → ◌≡◌ {A = ℕ} (if a then (if b then (if c then (if d && (f && g && h) then 0 else 36) else 3) else 2) else 1) 0 → Named core r cell
+          → ◌≡◌ {A = ℕ} (if a then (if b then (if c then (if d && (f && g && h) then 0 otherwise 36) otherwise 3) otherwise 2) otherwise 1) 0 → Named core r cell
       by true true true true true true true p q s e =
           record {
             inside = ltb-true (cell_address r cell) (length core) p;
@@ -80,26 +80,26 @@ module _ (core : List ℕ) (r cell : ℕ) where
 
   -- The start and the count of each case.
   pub start_given : hand_out_number core r cell ≡ 0 → address_of (cell_word core r cell) ≡ stretch_start core r cell
-  unfolding stretch_start if◌then◌else◌
+  unfolding stretch_start if◌then◌otherwise◌
   start_given e = rw (eq-eqb (hand_out_number core r cell) 0 e)
 
   pub count_given : hand_out_number core r cell ≡ 0 → size_of (cell_word core r cell) ≡ stretch_count core r cell
-  unfolding stretch_count if◌then◌else◌
+  unfolding stretch_count if◌then◌otherwise◌
   count_given e = rw (eq-eqb (hand_out_number core r cell) 0 e)
 
   pub start_none : (hand_out_number core r cell ≡ 0 → ⊥) → 0 ≡ stretch_start core r cell
-  unfolding stretch_start if◌then◌else◌
+  unfolding stretch_start if◌then◌otherwise◌
   start_none n = rw (ne_eqb (hand_out_number core r cell) 0 n)
 
   pub count_none : (hand_out_number core r cell ≡ 0 → ⊥) → 0 ≡ stretch_count core r cell
-  unfolding stretch_count if◌then◌else◌
+  unfolding stretch_count if◌then◌otherwise◌
   count_none n = rw (ne_eqb (hand_out_number core r cell) 0 n)
 
   -- A stretch lies wholly in core, the empty one too.
   pub within : stretch_start core r cell + stretch_count core r cell ≤ length core
-  unfolding stretch_start stretch_count if◌then◌else◌
+  unfolding stretch_start stretch_count if◌then◌otherwise◌
   within = by _ refl
     where
-      by : (b : Bool) → eqb (hand_out_number core r cell) 0 ≡ b → (if b then address_of (cell_word core r cell) else 0) + (if b then size_of (cell_word core r cell) else 0) ≤ length core
+      by : (b : Bool) → eqb (hand_out_number core r cell) 0 ≡ b → (if b then address_of (cell_word core r cell) otherwise 0) + (if b then size_of (cell_word core r cell) otherwise 0) ≤ length core
       by true e = (number_named (eqb-true (hand_out_number core r cell) 0 e)).whole
       by false e = omega arith

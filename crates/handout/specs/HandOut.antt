@@ -1,7 +1,7 @@
 -- "hand out the words an array cell names, as that stretch of the core itself"
 use Rattle.std.specs.Prelude.{ℕ, ◌+◌, ◌*◌, ◌≡◌, Bool, ◌&&◌, List, eqb, ltb, length, get_or, take, drop}
 use Rattle.std.specs.Borrow.{Bor}
-use Rattle.word.specs.Choices.{if◌then◌else◌}
+use Rattle.word.specs.Choices.{if◌then◌otherwise◌}
 use Rattle.word.specs.Addresses.{cell_address}
 use Rattle.word.specs.Core.{length_fits, words_fit}
 use Rattle.word.specs.Layout.{size_of, address_of, array_in}
@@ -18,15 +18,15 @@ cell_fits core r cell = ltb (cell_address r cell) (length core) && array_in (len
 unfoldable pub hand_out_number : List ℕ → ℕ → ℕ → ℕ
 hand_out_number core r cell =
     if length_fits core then
-    (if words_fit core then (if ltb r 512 && ltb cell 1024 then (if cell_fits core r cell then 0 else 36) else 3) else 2)
-    else 1
+    (if words_fit core then (if ltb r 512 && ltb cell 1024 then (if cell_fits core r cell then 0 otherwise 36) otherwise 3) otherwise 2)
+    otherwise 1
 
 -- From the descriptor's address for its size; "each with an empty stretch".
 unfoldable pub stretch_start : List ℕ → ℕ → ℕ → ℕ
-stretch_start core r cell = if eqb (hand_out_number core r cell) 0 then address_of (cell_word core r cell) else 0
+stretch_start core r cell = if eqb (hand_out_number core r cell) 0 then address_of (cell_word core r cell) otherwise 0
 
 unfoldable pub stretch_count : List ℕ → ℕ → ℕ → ℕ
-stretch_count core r cell = if eqb (hand_out_number core r cell) 0 then size_of (cell_word core r cell) else 0
+stretch_count core r cell = if eqb (hand_out_number core r cell) 0 then size_of (cell_word core r cell) otherwise 0
 
 unfoldable pub stretch_of : List ℕ → ℕ → ℕ → List ℕ
 stretch_of core r cell = take (stretch_count core r cell) (drop (stretch_start core r cell) core)

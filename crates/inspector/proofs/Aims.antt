@@ -20,15 +20,15 @@ use Rattle.syllable.specs.declared.Syllable.{Syllable}
 use Rattle.syllable.specs.Decoding.{decode_of}
 use Rattle.syllable.specs.ForCode.Numbered.{syllable_numbered as numbered}
 use Rattle.syllable.specs.Positions.{syllable_of, next_of}
-use Rattle.word.specs.Choices.{if◌then◌else◌}
+use Rattle.word.specs.Choices.{if◌then◌otherwise◌}
 
 pub far_yes : (m : ℕ) {r : ℕ} → m < 1025 → r ≡ m - 1 → r ≡ far_of m
-unfolding if◌then◌else◌
-far_yes m h e = e ∙ sym (ap (λ (s : Bool). if s then m - 1 else 0) (lt-ltb m 1025 h))
+unfolding if◌then◌otherwise◌
+far_yes m h e = e ∙ sym (ap (λ (s : Bool). if s then m - 1 otherwise 0) (lt-ltb m 1025 h))
 
 pub far_no : (m : ℕ) → 1025 ≤ m → 0 ≡ far_of m
-unfolding if◌then◌else◌
-far_no m h = sym (ap (λ (s : Bool). if s then m - 1 else 0) (le-ltb m 1025 h))
+unfolding if◌then◌otherwise◌
+far_no m h = sym (ap (λ (s : Bool). if s then m - 1 otherwise 0) (le-ltb m 1025 h))
 
 module _ {marks : List ℕ} {code words : ℕ} (t : ℕ) (core sheet : List ℕ) (a : Aimed core sheet marks code words) where
   -- A landing by the code's own numbers.

@@ -8,7 +8,7 @@ use Rattle.inspector.specs.Scan.{shape_at, breaks_at}
 use Rattle.inspector.specs.Targets.{misses_target}
 use Rattle.inspector.specs.Verdicts.{given, verdict_of}
 use Rattle.inspector.specs.ForTheorems.Examples.{example_core, example_sheet}
-use Rattle.word.specs.Choices.{if◌then◌else◌}
+use Rattle.word.specs.Choices.{if◌then◌otherwise◌}
 use Rattle.machine.specs.Branches.{landing_of}
 use Rattle.syllable.specs.Decoding.{decode_of}
 use Rattle.syllable.specs.Positions.{syllable_of}
@@ -20,5 +20,5 @@ use Rattle.sheet.specs.Sheets.{cell_of}
 pub examples :
     map (verdict_of example_core) (example_sheet 2 9 ∷ example_sheet 1 9 ∷ example_sheet 2 10 ∷ [])
     ≡ given 0 0 ∷ given 34 1 ∷ given 34 3 ∷ []
-unfolding verdict_of length_fits words_fit sheet_fits record_good astray unfit cell_of array_fits array_in plain_words breaks_at shape_at misses_target landing_of if◌then◌else◌ decode_of syllable_of
+unfolding verdict_of length_fits words_fit sheet_fits record_good astray unfit cell_of array_fits array_in plain_words breaks_at shape_at misses_target landing_of if◌then◌otherwise◌ decode_of syllable_of
 examples = refl

@@ -10,14 +10,14 @@ use lib.ListN.{length, get_or, set, replicate, length-set, length-replicate, get
 use lib.Seq.{get_or-set_same, get_or-set_other}
 use Rattle.sheet.specs.Sheets.{entry_at, entries, cell_in, cell_of}
 use Rattle.inspector.specs.ForCode.Forms.{painted, Painted, Cells}
-use Rattle.word.specs.Choices.{if◌then◌else◌}
+use Rattle.word.specs.Choices.{if◌then◌otherwise◌}
 
 abbrev chosen : ℕ → ℕ → Bool → ℕ
-chosen kind old b = if b then kind else old
+chosen kind old b = if b then kind otherwise old
 
 -- The choice of `cell_in`, which recurses and so spells it out.
 spelled : (kind old : ℕ) (b : Bool) → chosen kind old b ≡ elim b [ true ↦ kind | false ↦ old ]
-unfolding if◌then◌else◌
+unfolding if◌then◌otherwise◌
 spelled kind old true = refl
 spelled kind old false = refl
 
@@ -27,7 +27,7 @@ none_in a c true e = le-ltb c (a + 0) (omega (arith, leb-true a c e))
 none_in a c false e = refl
 
 pub paint_none : (a kind : ℕ) (cells : List ℕ) → length cells ≡ 1024 → Painted a 0 kind cells cells
-unfolding if◌then◌else◌
+unfolding if◌then◌otherwise◌
 paint_none a kind cells l =
     record { sized = l; paint = λ c h. sym (ap (chosen kind (get_or cells c 0)) (none_in a c (leb a c) refl)) }
 
@@ -45,7 +45,7 @@ next_in a j c e =
 
 paint_at : (a j kind old c : ℕ) (cells : List ℕ) → length cells ≡ 1024 → c < 1024 → get_or cells c 0 ≡ painted a j kind old c →
     (b : Bool) → eqb c (a + j) ≡ b → get_or (set cells (a + j) kind) c 0 ≡ painted a (j + 1) kind old c
-unfolding if◌then◌else◌
+unfolding if◌then◌otherwise◌
 paint_at a j kind old c cells l h e true t =
     let k : c ≡ a + j = eqb-true c (a + j) t in
     ap (λ (m : ℕ). get_or (set cells m kind) c 0) (sym k) ∙ get_or-set_same cells c kind 0 (omega arith) ∙ sym (ap (chosen kind old) (next_in a j c k))

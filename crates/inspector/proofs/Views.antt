@@ -15,25 +15,25 @@ use Rattle.inspector.specs.declared.shapes.Effect.{Effect}
 use Rattle.inspector.specs.declared.shapes.Effect.TheVariants.{Puts}
 use Rattle.inspector.proofs.Stacks.{seen_shape}
 use Rattle.syllable.specs.ForCode.Numbered.{syllable_numbered}
-use Rattle.word.specs.Choices.{if◌then◌else◌}
+use Rattle.word.specs.Choices.{if◌then◌otherwise◌}
 
 pub item_literal : (x : ℕ) → x < 1024 → item_of x ≡ literal x
-unfolding item_of if◌then◌else◌
-item_literal x h = ap (λ (s : Bool). if s then literal x else if eqb x 1024 then number else place) (lt-ltb x 1024 h)
+unfolding item_of if◌then◌otherwise◌
+item_literal x h = ap (λ (s : Bool). if s then literal x otherwise if eqb x 1024 then number otherwise place) (lt-ltb x 1024 h)
 
 -- An item that is no literal is a number or a place.
-item_other : (x : ℕ) → 1024 ≤ x → item_of x ≡ (if eqb x 1024 then number else place)
-unfolding item_of if◌then◌else◌
-item_other x h = ap (λ (s : Bool). if s then literal x else if eqb x 1024 then number else place) (le-ltb x 1024 h)
+item_other : (x : ℕ) → 1024 ≤ x → item_of x ≡ (if eqb x 1024 then number otherwise place)
+unfolding item_of if◌then◌otherwise◌
+item_other x h = ap (λ (s : Bool). if s then literal x otherwise if eqb x 1024 then number otherwise place) (le-ltb x 1024 h)
 
 pub aim_literal : (cells : List ℕ) (a : ℕ) → a < 1024 → (sheet : List ℕ) → Cells cells sheet → eqb (get_or cells a 0) 3 ≡ writable sheet (item_of a)
 aim_literal cells a h sheet c = ap (λ (k : ℕ). eqb k 3) (c.cell a h) ∙ sym (ap (writable sheet) (item_literal a h))
 
 pub aim_other : (cells : List ℕ) (a : ℕ) {r : Bool} → 1024 ≤ a → r ≡ not (eqb a 1024) → (sheet : List ℕ) → Cells cells sheet → r ≡ writable sheet (item_of a)
-unfolding if◌then◌else◌
+unfolding if◌then◌otherwise◌
 aim_other cells a h e sheet c = e ∙ by (eqb a 1024) ∙ sym (ap (writable sheet) (item_other a h))
   where
-    by : (b : Bool) → not b ≡ writable sheet (if b then number else place)
+    by : (b : Bool) → not b ≡ writable sheet (if b then number otherwise place)
     by true = refl
     by false = refl
 
@@ -73,17 +73,17 @@ top_of_is items (suc h) l =
     ap (λ (m : ℕ). item_of (get_or items m 0) ∷ shape_of items m) e
 
 pub mark_empty : (items : List ℕ) (h : ℕ) → h ≡ 0 → Mark (leaves (shape_of items h)) 0
-unfolding shape_of if◌then◌else◌
+unfolding shape_of if◌then◌otherwise◌
 mark_empty items h e = record { empty = rw e; far = rw e }
 
 far_one : (k : ℕ) → k < 1024 → far_of (k + 1) ≡ k
-unfolding if◌then◌else◌
+unfolding if◌then◌otherwise◌
 far_one k h =
     let m : k + 1 - 1 ≡ k = omega arith in
-    ap (λ (s : Bool). if s then k + 1 - 1 else 0) (lt-ltb (k + 1) 1025 (omega arith)) ∙ m
+    ap (λ (s : Bool). if s then k + 1 - 1 otherwise 0) (lt-ltb (k + 1) 1025 (omega arith)) ∙ m
 
 pub mark_literal : (items : List ℕ) (h : ℕ) {a : ℕ} → (h ≡ 0 → ⊥) → a ≡ get_or items (h - 1) 0 → a < 1024 → Mark (leaves (shape_of items h)) (a + 1)
-unfolding if◌then◌else◌
+unfolding if◌then◌otherwise◌
 mark_literal items h {a} n e l =
     let s : shape_of items h ≡ literal a ∷ shape_of items (h - 1) =
     top_of_is items h (omega (arith, n)) ∙ ap (λ (x : ℕ). item_of x ∷ shape_of items (h - 1)) (sym e) ∙ ap (λ (i : Item). i ∷ shape_of items (h - 1)) (item_literal a l) in
@@ -93,19 +93,19 @@ mark_literal items h {a} n e l =
     }
 
 pub mark_other : (items : List ℕ) (h : ℕ) {a : ℕ} → (h ≡ 0 → ⊥) → a ≡ get_or items (h - 1) 0 → 1024 ≤ a → Mark (leaves (shape_of items h)) 1025
-unfolding if◌then◌else◌
+unfolding if◌then◌otherwise◌
 mark_other items h {a} n e l =
-    let s : shape_of items h ≡ (if eqb a 1024 then number else place) ∷ shape_of items (h - 1) =
+    let s : shape_of items h ≡ (if eqb a 1024 then number otherwise place) ∷ shape_of items (h - 1) =
     top_of_is items h (omega (arith, n)) ∙ ap (λ (x : ℕ). item_of x ∷ shape_of items (h - 1)) (sym e) ∙ ap (λ (i : Item). i ∷ shape_of items (h - 1)) (item_other a l) in
     record {
       empty = by (eqb a 1024) ∙ sym (ap (λ (xs : Shape). is_empty (leaves xs)) s);
       far = at (eqb a 1024) ∙ sym (ap (λ (xs : Shape). distance (leaves xs)) s);
     }
   where
-    by : (b : Bool) → false ≡ is_empty (leaves ((if b then number else place) ∷ shape_of items (h - 1)))
+    by : (b : Bool) → false ≡ is_empty (leaves ((if b then number otherwise place) ∷ shape_of items (h - 1)))
     by true = refl
     by false = refl
 
-    at : (b : Bool) → 0 ≡ distance (leaves ((if b then number else place) ∷ shape_of items (h - 1)))
+    at : (b : Bool) → 0 ≡ distance (leaves ((if b then number otherwise place) ∷ shape_of items (h - 1)))
     at true = refl
     at false = refl

@@ -12,7 +12,7 @@ use Rattle.syllable.specs.declared.Syllable.TheVariants.{Litc, Opdc, Desc, Opera
 use Rattle.syllable.specs.Decoding.{decode_of}
 use Rattle.syllable.specs.Positions.{syllable_of}
 use Rattle.inspector.specs.Turns.{Turn, branches, communicates, neither, turn_of}
-use Rattle.word.specs.Choices.{if◌then◌else◌}
+use Rattle.word.specs.Choices.{if◌then◌otherwise◌}
 
 -- "items are literal k, number, place"; the top of a shape stands first.
 pub data Item : Type 0 where
@@ -48,7 +48,7 @@ writable sheet place = true
 abbrev pub called_over : ℕ → Item → Shape → Left
 called_over cell x [] = when (eqb cell 3) (x ∷ [])
 called_over cell x (i ∷ xs) =
-    if eqb cell 3 then leaves (x ∷ i ∷ xs) else when (eqb cell 4 && value i) (x ∷ xs)
+    if eqb cell 3 then leaves (x ∷ i ∷ xs) otherwise when (eqb cell 4 && value i) (x ∷ xs)
 
 -- "over literals or numbers (all give numbers)": two items, one item.
 abbrev pub two_values : Shape → Left

@@ -3,7 +3,7 @@ use Prim.Native.Nat.{ℕ, ◌<◌}
 use mathlib.Core.Bool.{Bool, true, false, not, ◌&&◌}
 use native.Mathlib.Omega.{arith}
 use lib.Dec.{eqb}
-use Rattle.word.specs.Choices.{if◌then◌else◌}
+use Rattle.word.specs.Choices.{if◌then◌otherwise◌}
 use Rattle.machine.specs.States.{State}
 use Rattle.machine.specs.Memory.{k_address_of}
 use Rattle.machine.specs.Calls.{index_of, indexed_of, load_of, data_call_of, mark_of, enter_of, program_call_of, left_of, call_as, call_of, fetched_of, call_k_of}
@@ -40,8 +40,8 @@ mark_fit argument st k =
     (λ _. gives_bind (push_fit st k _ (mscw_word st.regs.r st.regs.msff st.regs.salf st.regs.f))
     (λ u i. goes (with_f_is i u.regs.s i.fit.regs.s)))
 
-chosen : (b : Bool) (x y : ℕ) → x < 32768 → y < 32768 → (if b then x else y) < 32768
-unfolding if◌then◌else◌
+chosen : (b : Bool) (x y : ℕ) → x < 32768 → y < 32768 → (if b then x otherwise y) < 32768
+unfolding if◌then◌otherwise◌
 chosen true x y h i = h
 chosen false x y h i = i
 

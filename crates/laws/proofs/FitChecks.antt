@@ -10,7 +10,7 @@ use borrow.Author.Tests.{ltb-true, leb-true, eqb-true, lt-ltb, le-leb, eq-eqb}
 use lib.Dec.{ltb}
 use lib.ListN.{length}
 use Rattle.machine.specs.declared.outcome.Registers.{Registers}
-use Rattle.word.specs.Choices.{if◌then◌else◌}
+use Rattle.word.specs.Choices.{if◌then◌otherwise◌}
 use Rattle.machine.specs.States.{state_of}
 use Rattle.machine.specs.Steps.{holds_word, registers_fit, refusal_of}
 use Rattle.word.specs.Core.{length_fits, words_fit}
@@ -28,7 +28,7 @@ tells_lt : (m n : ℕ) → Tells (ltb m n) (m < n)
 tells_lt m n = (ltb-true m n, lt-ltb m n)
 
 tells_holds : (full : Bool) (x : ℕ) → Tells (holds_word full x) (Holds full x)
-unfolding if◌then◌else◌
+unfolding if◌then◌otherwise◌
 tells_holds true x = tells_lt x (2 ^ 48)
 tells_holds false x = (eqb-true x 0, eq-eqb x 0)
 
@@ -58,8 +58,8 @@ tells_registers g =
     )
 
 -- A check before others.
-checked : {b : Bool} {P Q : Type 0} (x n : ℕ) → Tells b P → (x ≡ 0) ↔ Q → ((if b then x else suc n) ≡ 0) ↔ (P × Q)
-unfolding if◌then◌else◌
+checked : {b : Bool} {P Q : Type 0} (x n : ℕ) → Tells b P → (x ≡ 0) ↔ Q → ((if b then x otherwise suc n) ≡ 0) ↔ (P × Q)
+unfolding if◌then◌otherwise◌
 checked {b = true} x n p q = (λ e. (p.0 refl, q.0 e), λ t. q.1 t.1)
 checked {b = false} x n p q = (λ e. absurd (omega arith), λ t. absurd (false≢true (p.1 t.0)))
 

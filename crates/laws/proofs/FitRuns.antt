@@ -7,7 +7,7 @@ use borrow.Author.Tests.{eq-eqb}
 use lib.Dec.{leb}
 use lib.ListN.{length}
 use Rattle.machine.specs.declared.outcome.Registers.{Registers}
-use Rattle.word.specs.Choices.{if◌then◌else◌}
+use Rattle.word.specs.Choices.{if◌then◌otherwise◌}
 use Rattle.machine.specs.States.{State, state_of}
 use Rattle.machine.specs.Steps.{Ended, next, communicated, stopped, execute_of, refusal_of}
 use Rattle.machine.specs.Runs.{Run, ends_at, goes_on, run_from, run_of}
@@ -31,12 +31,12 @@ from_keeps zero st f = record { fit = f; size = refl }
 from_keeps (suc n) st f = goes_on_keeps (execute_of st) (run_from n) st f (execute_fit st f) (from_keeps n)
 
 run_keeps : (core : List ℕ) (g : Registers) (budget : ℕ) → refusal_of core g ≡ 0 → Keeps (state_of core g) (left (run_of core g budget))
-unfolding run_of if◌then◌else◌
+unfolding run_of if◌then◌otherwise◌
 run_keeps core g budget e =
     let f : Fit (state_of core g) = (fit_refusal core g).0 e in
     rw (eq-eqb (refusal_of core g) 0 e) (by (leb budget 1000000) f)
   where
-    by : (within : Bool) → Fit (state_of core g) → Keeps (state_of core g) (left (if within then run_from budget (state_of core g) else ends_at 5 0 (state_of core g)))
+    by : (within : Bool) → Fit (state_of core g) → Keeps (state_of core g) (left (if within then run_from budget (state_of core g) otherwise ends_at 5 0 (state_of core g)))
     by true f = from_keeps budget (state_of core g) f
     by false f = record { fit = f; size = refl }
 

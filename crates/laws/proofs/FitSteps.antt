@@ -8,7 +8,7 @@ use borrow.Author.Tests.{eq-eqb}
 use lib.Dec.{eqb}
 use lib.ListN.{length}
 use Rattle.machine.specs.declared.outcome.Registers.{Registers}
-use Rattle.word.specs.Choices.{if◌then◌else◌}
+use Rattle.word.specs.Choices.{if◌then◌otherwise◌}
 use Rattle.machine.specs.States.{State, state_of}
 use Rattle.machine.specs.Steps.{Ended, next, communicated, stopped, execute_of, refusal_of, Stepped, ended_as, step_of}
 use Rattle.laws.specs.Fit.{Fit, Keeps, After}
@@ -25,7 +25,7 @@ ended_fit (communicated u) st f k = k
 ended_fit (stopped n) st f k = record { fit = f; size = refl }
 
 step_keeps : (core : List ℕ) (g : Registers) → refusal_of core g ≡ 0 → Keeps (state_of core g) (left (step_of core g))
-unfolding step_of if◌then◌else◌
+unfolding step_of if◌then◌otherwise◌
 step_keeps core g e =
     let f : Fit (state_of core g) = (fit_refusal core g).0 e in
     rw (eq-eqb (refusal_of core g) 0 e) (ended_fit (execute_of (state_of core g)) (state_of core g) f (execute_fit (state_of core g) f))
@@ -44,10 +44,10 @@ ended_kept (stopped n) st p q = refl
 
 -- What a step answers, its checks passed or not.
 abbrev answer : Bool → Ended → State → ℕ → Stepped
-answer passed e st n = if passed then ended_as e st else record { number = n; core = st.core; regs = st.regs }
+answer passed e st n = if passed then ended_as e st otherwise record { number = n; core = st.core; regs = st.regs }
 
 answer_kept : (passed : Bool) (e : Ended) (st : State) (n : ℕ) → (answer passed e st n).number ≢ 0 → (answer passed e st n).number ≢ 17 → left (answer passed e st n) ≡ st
-unfolding if◌then◌else◌
+unfolding if◌then◌otherwise◌
 answer_kept true e st n p q = ended_kept e st p q
 answer_kept false e st n p q = refl
 

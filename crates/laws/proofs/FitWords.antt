@@ -10,7 +10,7 @@ use Rattle.laws.specs.Fit.{Word}
 use Rattle.word.specs.Field.{placed, with_field, one_of}
 use Rattle.word.specs.Layout.{data_of, mscw_of, rcw_of}
 use Rattle.word.specs.Numbers.{operand_of, negative, the, given_back}
-use Rattle.word.specs.Choices.{if◌then◌else◌}
+use Rattle.word.specs.Choices.{if◌then◌otherwise◌}
 use Rattle.word.proofs.Makings.{one_lt}
 use Rattle.syllable.specs.declared.Arithmetic.{Arithmetic}
 use Rattle.syllable.specs.declared.Arithmetic.TheVariants.{Add, Sub, Mul, Idv, Rdv}
@@ -45,8 +45,8 @@ rcw_word d l f c = omega (arith, one_lt d)
 pub one_word : (b : Bool) → Word (one_of b)
 one_word b = omega (arith, one_lt b)
 
-made_word : (b : Bool) (w : ℕ) → Word w → Gives Word (or_unwhole (if b then the w else given_back 20))
-unfolding if◌then◌else◌
+made_word : (b : Bool) (w : ℕ) → Word w → Gives Word (or_unwhole (if b then the w otherwise given_back 20))
+unfolding if◌then◌otherwise◌
 made_word true w h = goes h
 made_word false w h = stops
 

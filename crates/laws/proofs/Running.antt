@@ -13,7 +13,7 @@ use Rattle.machine.specs.declared.outcome.Cause.TheVariants.{Address, Overflow, 
 use Rattle.machine.specs.declared.outcome.Registers.{Registers}
 use Rattle.machine.specs.Outcomes.{number_of}
 use Rattle.machine.specs.States.{State, state_of}
-use Rattle.word.specs.Choices.{if◌then◌else◌}
+use Rattle.word.specs.Choices.{if◌then◌otherwise◌}
 use Rattle.machine.specs.Steps.{Ended, next, communicated, stopped, execute_of, refusal_of, ended_as, Stepped, step_of}
 use Rattle.machine.specs.Runs.{Run, ends_at, counted, goes_on, run_from, run_of}
 use Rattle.laws.specs.Runs.{goes_on_for}
@@ -21,7 +21,7 @@ use Rattle.laws.proofs.FitSteps.{step_fit}
 
 -- No cause has the number 0.
 halted : (c : Cause) (st : State) (m : ℕ) → ends_at (number_of c) 0 st ≡ goes_on_for (ends_at (number_of c) 0 st) m
-unfolding if◌then◌else◌
+unfolding if◌then◌otherwise◌
 halted Address st m = refl
 halted Overflow st m = refl
 halted Presence st m = refl
@@ -33,36 +33,36 @@ halted ZeroDivisor st m = refl
 
 -- One syllable more before both.
 one_more : (b : Bool) (r : Run) (m : ℕ)
-    → counted 1 (if b then counted r.completed (run_from m (state_of r.core r.regs)) else r)
-    ≡ (if b then counted (1 + r.completed) (run_from m (state_of r.core r.regs)) else counted 1 r)
-unfolding if◌then◌else◌
+    → counted 1 (if b then counted r.completed (run_from m (state_of r.core r.regs)) otherwise r)
+    ≡ (if b then counted (1 + r.completed) (run_from m (state_of r.core r.regs)) otherwise counted 1 r)
+unfolding if◌then◌otherwise◌
 one_more true r m = ap (λ (n : ℕ). record { stop = (run_from m (state_of r.core r.regs)).stop; completed = n; core = (run_from m (state_of r.core r.regs)).core; regs = (run_from m (state_of r.core r.regs)).regs }) (sym (add_assoc 1 r.completed (run_from m (state_of r.core r.regs)).completed))
 one_more false r m = refl
 
 step_add : (n m : ℕ) (st : State) (e : Ended) → ((u : State) → run_from (n + m) u ≡ goes_on_for (run_from n u) m)
     → goes_on e (run_from (n + m)) st ≡ goes_on_for (goes_on e (run_from n) st) m
-unfolding if◌then◌else◌
+unfolding if◌then◌otherwise◌
 step_add n m st (next u) h = ap (counted 1) (h u) ∙ one_more (eqb (run_from n u).stop 0) (run_from n u) m
 step_add n m st (communicated u) h = refl
 step_add n m st (stopped c) h = halted c st m
 
 pub run_add : (n m : ℕ) (st : State) → run_from (n + m) st ≡ goes_on_for (run_from n st) m
-unfolding run_from if◌then◌else◌
+unfolding run_from if◌then◌otherwise◌
 run_add zero m st = ap (λ (k : ℕ). run_from k st) (zero-add m) ∙ ap (λ (k : ℕ). record { stop = (run_from m st).stop; completed = k; core = (run_from m st).core; regs = (run_from m st).regs }) (sym (zero-add (run_from m st).completed))
 run_add (suc n) m st = ap (λ (k : ℕ). run_from k st) (suc-add n m) ∙ step_add n m st (execute_of st) (run_add n m)
 
 -- "budget 0": the checks are made, nothing is fetched, nothing completed.
 pub run_none : (core : List ℕ) (g : Registers) → refusal_of core g ≡ 0 → run_of core g 0 ≡ ends_at 0 0 (state_of core g)
-unfolding run_of run_from if◌then◌else◌
+unfolding run_of run_from if◌then◌otherwise◌
 run_none core g e = rw (eq-eqb (refusal_of core g) 0 e)
 
 -- Where the checks pass, a run is the steps from its state, and a step is one of them.
 pub passed_run : (core : List ℕ) (g : Registers) (budget : ℕ) → refusal_of core g ≡ 0 → budget ≤ 1000000 → run_of core g budget ≡ run_from budget (state_of core g)
-unfolding run_of if◌then◌else◌
+unfolding run_of if◌then◌otherwise◌
 passed_run core g budget e h = rw (eq-eqb (refusal_of core g) 0 e, le-leb budget 1000000 h)
 
 passed_step : (core : List ℕ) (g : Registers) → refusal_of core g ≡ 0 → step_of core g ≡ ended_as (execute_of (state_of core g)) (state_of core g)
-unfolding step_of if◌then◌else◌
+unfolding step_of if◌then◌otherwise◌
 passed_step core g e = rw (eq-eqb (refusal_of core g) 0 e)
 
 abbrev left : Stepped → State

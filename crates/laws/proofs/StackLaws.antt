@@ -8,7 +8,7 @@ use borrow.Author.Tests.{ltb-true, eqb-false}
 use lib.Dec.{eqb, ltb}
 use lib.ListN.{length, get_or, set, take}
 use lib.Seq.{take-suc, take-suc-set}
-use Rattle.word.specs.Choices.{if◌then◌else◌}
+use Rattle.word.specs.Choices.{if◌then◌otherwise◌}
 use Rattle.machine.specs.Outcomes.{on}
 use Rattle.machine.specs.States.{State, empty_a, fill_a, fill_b, with_s, store}
 use Rattle.machine.specs.Memory.{in_core, read_of}
@@ -34,10 +34,10 @@ abbrev low : State → List ℕ
 low st = take (st.regs.s + 1) st.core
 
 abbrev middle : State → List ℕ
-middle st = if st.regs.bfull then st.regs.b ∷ [] else []
+middle st = if st.regs.bfull then st.regs.b ∷ [] otherwise []
 
 abbrev high : State → List ℕ
-high st = middle st ++ (if st.regs.afull then st.regs.a ∷ [] else [])
+high st = middle st ++ (if st.regs.afull then st.regs.a ∷ [] otherwise [])
 
 parts : (st : State) → stack_of st ≡ low st ++ high st
 unfolding stack_of
@@ -63,11 +63,11 @@ top_gives core s =
 
 -- A moved to an empty B, and a word put in an empty A.
 moved : (u : State) → u.regs.bfull ≡ false → u.regs.afull ≡ true → Same u (empty_a (fill_b u u.regs.a))
-unfolding if◌then◌else◌
+unfolding if◌then◌otherwise◌
 moved u p q = rw (p, q)
 
 put : (v : State) (k : ℕ) → v.regs.afull ≡ false → stack_of (fill_a v k) ≡ stack_of v ++ (k ∷ [])
-unfolding stack_of if◌then◌else◌
+unfolding stack_of if◌then◌otherwise◌
 put v k p = rw p (ap (λ (l : List ℕ). l ++ (k ∷ [])) (sym (append-nil (low v ++ middle v))))
 
 module _ (st : State) where
@@ -78,7 +78,7 @@ module _ (st : State) where
       (λ m h. goes (ap (λ (m : ℕ). with_s (store st m w) m) h.1, omega (arith, h.0, h.1)))
 
   push_b_gives : Gives (λ (u : State). Same st u × (u.regs.bfull ≡ false) × (u.regs.afull ≡ st.regs.afull)) (push_b_of st)
-  unfolding push_b_of if◌then◌else◌
+  unfolding push_b_of if◌then◌otherwise◌
   push_b_gives =
       gives_if st.regs.bfull
       (λ e. gives_bind (push_gives st.regs.b) (λ u h. goes (rw (h.0, e) (up st.core st.regs.s st.regs.b _ h.1), refl, rw h.0)))
@@ -89,14 +89,14 @@ module _ (st : State) where
   a_empty_gives = gives_if st.regs.afull (λ e. gives_bind push_b_gives (λ u h. goes (moved u h.1 (h.2 ∙ e) ∙ h.0, refl))) (λ e. goes (refl, e))
 
   a_full_gives : Gives (Same st) (a_full_of st)
-  unfolding a_full_of if◌then◌else◌
+  unfolding a_full_of if◌then◌otherwise◌
   a_full_gives =
       gives_if st.regs.afull (λ _. goes refl)
       (λ p. gives_if st.regs.bfull (λ q. goes (rw (p, q)))
       (λ q. gives_bind (top_gives st.core st.regs.s) (λ w h. goes (rw (p, q, h.0) (below st.core st.regs.s [] h.1 h.2)))))
 
   b_full_gives : Gives (Same st) (b_full_of st)
-  unfolding b_full_of if◌then◌else◌
+  unfolding b_full_of if◌then◌otherwise◌
   b_full_gives =
       gives_if st.regs.bfull (λ _. goes refl)
       (λ q. gives_bind (top_gives st.core st.regs.s) (λ w h. goes (rw (q, h.0) (below st.core st.regs.s _ h.1 h.2))))
@@ -112,7 +112,7 @@ module _ (st u : State) where
   b_full_stack e = same st u (given (b_full_gives st) e)
 
   pub push_stack : (w : ℕ) → st.regs.afull ≡ false → st.regs.bfull ≡ false → push_of st w ≡ on u → stack_of u ≡ stack_of st ++ (w ∷ [])
-  unfolding stack_of if◌then◌else◌
+  unfolding stack_of if◌then◌otherwise◌
   push_stack w p q e =
       let h = given (push_gives st w) e in
       rw (h.0, p, q) (ap (λ (l : List ℕ). l ++ []) (up st.core st.regs.s w [] h.1) ∙ append-nil (low st ++ (w ∷ [])) ∙ ap (λ (l : List ℕ). l ++ (w ∷ [])) (sym (append-nil (low st ++ []) ∙ append-nil (low st))))

@@ -10,7 +10,7 @@ use Rattle.machine.specs.declared.outcome.Went.{Went}
 use Rattle.machine.specs.declared.outcome.Went.TheVariants.{On, Stop}
 use Rattle.machine.specs.Outcomes.{Res, on, halt, ◌>>=◌}
 use Rattle.machine.specs.States.{State, state_of}
-use Rattle.word.specs.Choices.{if◌then◌else◌}
+use Rattle.word.specs.Choices.{if◌then◌otherwise◌}
 use Rattle.machine.specs.ForCode.Answers.{went_of, KeepsOnStop, Does}
 
 -- What a callee's definition equals, once its answer is known.
@@ -18,12 +18,12 @@ pub known : {R A : Type 0} (f : R → A) {r c : R} {o : A} → f r ≡ o → r �
 known f e h = sym e ∙ ap f h
 
 -- A test that held, and one that did not.
-pub is_yes : {A : Type 0} {b : Bool} {z : A} (x y : A) → b ≡ true → z ≡ x → z ≡ (if b then x else y)
-unfolding if◌then◌else◌
+pub is_yes : {A : Type 0} {b : Bool} {z : A} (x y : A) → b ≡ true → z ≡ x → z ≡ (if b then x otherwise y)
+unfolding if◌then◌otherwise◌
 is_yes x y t e = rw t e
 
-pub is_no : {A : Type 0} {b : Bool} {z : A} (x y : A) → b ≡ false → z ≡ y → z ≡ (if b then x else y)
-unfolding if◌then◌else◌
+pub is_no : {A : Type 0} {b : Bool} {z : A} (x y : A) → b ≡ false → z ≡ y → z ≡ (if b then x otherwise y)
+unfolding if◌then◌otherwise◌
 is_no x y t e = rw t e
 
 -- A part that went on, and one that halted.

@@ -20,7 +20,7 @@ use Rattle.machine.specs.States.{State, set_cl, state_of}
 use Rattle.machine.specs.Memory.{read_of}
 use Rattle.machine.specs.Calls.{call_k_of}
 use Rattle.machine.specs.Steps.{Ended, plain, last, operate_of, perform_of, execute_of, registers_fit, refusal_of, Stepped, ended_as, step_of}
-use Rattle.word.specs.Choices.{if◌then◌else◌}
+use Rattle.word.specs.Choices.{if◌then◌otherwise◌}
 use Rattle.word.specs.Core.{length_fits, words_fit}
 use Rattle.syllable.specs.declared.Operator.{Operator}
 use Rattle.syllable.specs.declared.Operator.TheVariants.{NotBuilt}
@@ -152,11 +152,11 @@ fetches {core} {core'} {r} g w y n table p e s t i a d =
 -- ---- the step
 
 pub refused : (core : List ℕ) (g : Registers) (n : ℕ) → n ≡ refusal_of core g → (n ≡ 0 → ⊥) → record { number = n; core = core; regs = g } ≡ step_of core g
-unfolding step_of if◌then◌else◌
+unfolding step_of if◌then◌otherwise◌
 refused core g n e h = rw (← e, ne_eqb n 0 h)
 
 stepped : (core : List ℕ) (g : Registers) (n : ℕ) → n ≡ refusal_of core g → n ≡ 0 → ended_as (execute_of (state_of core g)) (state_of core g) ≡ step_of core g
-unfolding step_of if◌then◌else◌
+unfolding step_of if◌then◌otherwise◌
 stepped core g n e h = rw (← e, h)
 
 pub step_next : {core core' : List ℕ} (g : Registers) {h : Registers} {r : Done} (n : ℕ) → n ≡ refusal_of core g → n ≡ 0 → Ends core core' r (execute_of (state_of core g)) → r ≡ Next h → record { number = 0; core = core'; regs = h } ≡ step_of core g
@@ -182,10 +182,10 @@ step_stop {core} {core'} {g} n m e z d q k =
 
 -- A core that passes the checks has at most 32,768 words.
 pub refusal_length : (core : List ℕ) (g : Registers) (n : ℕ) → n ≡ refusal_of core g → n ≡ 0 → length core ≤ 32768
-unfolding refusal_of if◌then◌else◌ length_fits
+unfolding refusal_of if◌then◌otherwise◌ length_fits
 refusal_length core g n e z = go (length_fits core) refl (sym e ∙ z)
   where
-    go : (b : Bool) → length_fits core ≡ b → ◌≡◌ {A = ℕ} (if b then (if words_fit core then (if registers_fit g then 0 else 3) else 2) else 1) 0 → length core ≤ 32768
+    go : (b : Bool) → length_fits core ≡ b → ◌≡◌ {A = ℕ} (if b then (if words_fit core then (if registers_fit g then 0 otherwise 3) otherwise 2) otherwise 1) 0 → length core ≤ 32768
     go true t f = leb-true (length core) 32768 (second (ltb 0 (length core)) (leb (length core) 32768) t)
       where
         second : (a b : Bool) → (a && b) ≡ true → b ≡ true

@@ -8,7 +8,7 @@ use Rattle.machine.specs.declared.outcome.Registers.{Registers}
 use Rattle.machine.specs.Outcomes.{Res, on, ◌>>=◌}
 use Rattle.machine.specs.States.{State, set_a, set_b, set_s, set_f, empty_a, with_f, with_cl, with_salf, with_msff, state_of}
 use Rattle.machine.specs.Stack.{slot_of, push_of, push_b_of}
-use Rattle.word.specs.Choices.{if◌then◌else◌}
+use Rattle.word.specs.Choices.{if◌then◌otherwise◌}
 use Rattle.machine.specs.Calls.{mark_of, enter_of}
 use Rattle.machine.specs.ForCode.Pushes.{slot_if, emptied, framed_of, entered_of}
 use Rattle.machine.proofs.Writes.{length_put}
@@ -30,7 +30,7 @@ entry_of desc argument st d = do
   u ← push_b_of (empty_a st)
   v ← mark_of argument u
   w ← push_of v (rcw_of desc v.regs.l v.regs.f v.regs.c)
-  on (with_msff (with_salf (with_cl (with_f w (if argument then w.regs.s else f_field_of d)) (address_of d) 0) true) false)
+  on (with_msff (with_salf (with_cl (with_f w (if argument then w.regs.s otherwise f_field_of d)) (address_of d) 0) true) false)
 
 module _ (desc argument : Bool) (core : List ℕ) (g : Registers) (d : ℕ) where
   -- The states after B and the mark are pushed.
@@ -38,7 +38,7 @@ module _ (desc argument : Bool) (core : List ℕ) (g : Registers) (d : ℕ) wher
   one p = state_of (put_of g.bfull p g.b core) (set_b (set_s (set_a g false 0) p) false (emptied g.bfull g.b))
 
   abbrev two : ℕ → ℕ → State
-  two p q = state_of (put_of (not argument) q (mscw_of g.r g.msff g.salf g.f) (one p).core) (set_f (set_s (one p).regs q) (if argument then g.f else q))
+  two p q = state_of (put_of (not argument) q (mscw_of g.r g.msff g.salf g.f) (one p).core) (set_f (set_s (one p).regs q) (if argument then g.f otherwise q))
 
   long_one : (p : ℕ) → length (one p).core ≡ length core
   long_one p = length_put g.bfull p g.b core
@@ -52,7 +52,7 @@ module _ (desc argument : Bool) (core : List ℕ) (g : Registers) (d : ℕ) wher
       sym
       (binds _ _ (push_b (empty_a (state_of core g)) refl)
       (λ p. binds _ _ (marks argument (one p) (long_one p))
-      (λ q. binds _ _ (pushes (two p q) (rcw_of desc g.l (if argument then g.f else q) g.c) (long_two p q)) (λ s. refl))))
+      (λ q. binds _ _ (pushes (two p q) (rcw_of desc g.l (if argument then g.f otherwise q) g.c) (long_two p q)) (λ s. refl))))
 
   pub enter_plan_is : argument ≡ argument_of d → enter_plan desc argument core g d ≡ enter_of desc (state_of core g) d
   unfolding enter_of
@@ -60,7 +60,7 @@ module _ (desc argument : Bool) (core : List ℕ) (g : Registers) (d : ℕ) wher
 
 -- What the code's three writes leave.
 pub frames : (desc argument : Bool) (g : Registers) (p q s f mark w : ℕ) (core c₁ c₂ c₃ : List ℕ)
-    → f ≡ (if argument then g.f else q)
+    → f ≡ (if argument then g.f otherwise q)
     → c₁ ≡ put_of g.bfull p g.b core
     → mark ≡ mscw_of g.r g.msff g.salf g.f
     → c₂ ≡ put_of (not argument) q mark c₁
@@ -73,7 +73,7 @@ frames desc argument g p q s f mark w core c₁ c₂ c₃ hf e₁ hm e₂ hw e�
 pub inside_is : (argument : Bool) (g : Registers) (d s b y f c : ℕ)
     → b ≡ emptied g.bfull g.b
     → y ≡ f_field_of d
-    → f ≡ (if argument then s else y)
+    → f ≡ (if argument then s otherwise y)
     → c ≡ address_of d
     → ◌≡◌ {A = Registers} (record { a = 0; afull = false; b = b; bfull = false; s = s; f = f; c = c; r = g.r; l = 0; salf = true; msff = false }) (entered_of argument g d s)
 unfolding entered_of

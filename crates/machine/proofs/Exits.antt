@@ -8,7 +8,7 @@ use Rattle.machine.specs.declared.outcome.Cause.{Cause}
 use Rattle.machine.specs.declared.outcome.Cause.TheVariants.{Address}
 use Rattle.machine.specs.Outcomes.{Res, on, halt}
 use Rattle.machine.specs.States.{State, state_of}
-use Rattle.word.specs.Choices.{if◌then◌else◌}
+use Rattle.word.specs.Choices.{if◌then◌otherwise◌}
 use Rattle.machine.specs.Memory.{read_of}
 use Rattle.machine.specs.Marks.{chain_of, mark_at_of}
 use Rattle.machine.proofs.Calculus.{is_yes, is_no, is_given, is_cut}
@@ -46,7 +46,7 @@ module _ (core : List ℕ) (m : ℕ) where
 
 -- A mark that is read has a word below it for S.
 pub mark_pos : (core : List ℕ) (m w : ℕ) → mark_at_of core m ≡ on w → 1 ≤ m
-unfolding mark_at_of if◌then◌else◌
+unfolding mark_at_of if◌then◌otherwise◌
 mark_pos core zero w e = absurd (clash e)
   where
     clash : ◌≡◌ {A = Res ℕ} (halt Address) (on w) → ⊥

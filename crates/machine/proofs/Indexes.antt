@@ -23,7 +23,7 @@ use Rattle.word.specs.declared.number.Whole.{Whole}
 use Rattle.word.specs.declared.number.Whole.TheVariants.{Number, NotWhole}
 use Rattle.word.proofs.Operands.{value_small}
 use Rattle.word.proofs.Signed.{back, casts, not_below_zero, true_false}
-use Rattle.word.specs.Choices.{if◌then◌else◌}
+use Rattle.word.specs.Choices.{if◌then◌otherwise◌}
 
 -- A whole number below 0, below the size, or at least the size.
 within_below : (z : ℤ) (size : ℕ) → lt_z z (pos 0) ≡ true → halt Index ≡ within_of z size
@@ -41,10 +41,10 @@ within_past z n size e h = rw e (is_no _ _ (le-ltb n size h) refl)
 
 module _ (w : ℕ) (z : ℤ) {r : Whole} (does : says_whole r ≡ whole_of w) (told : r ≡ Number z) where
   small : nat_abs z < 2 ^ 63
-  unfolding whole_of if◌then◌else◌
+  unfolding whole_of if◌then◌otherwise◌
   small = go (eqb (exponent_of w) 0) (sym does ∙ ap says_whole told)
     where
-      go : (b : Bool) → (if b then the (value_of w) else given_back 20) ≡ the z → nat_abs z < 2 ^ 63
+      go : (b : Bool) → (if b then the (value_of w) otherwise given_back 20) ≡ the z → nat_abs z < 2 ^ 63
       go true e =
           let v : value_of w ≡ z = cc in
           omega (arith, value_small w, ap nat_abs v)

@@ -9,7 +9,7 @@ use Rattle.machine.specs.Outcomes.{Res, on, halt, ◌>>=◌}
 use Rattle.machine.specs.States.{State, set_a, set_b, set_s, set_f, with_f, empty_a, empty_b, state_of, store}
 use Rattle.machine.specs.Memory.{in_core, store_of}
 use Rattle.machine.specs.Stack.{slot_of, push_of, push_a_of, push_b_of}
-use Rattle.word.specs.Choices.{if◌then◌else◌}
+use Rattle.word.specs.Choices.{if◌then◌otherwise◌}
 use Rattle.machine.specs.Calls.{mark_of}
 use Rattle.machine.specs.Marks.{also_of}
 use Rattle.machine.specs.ForCode.Pushes.{slot_if, in_core_if, emptied}
@@ -41,7 +41,7 @@ pushes st w e = record { plan = rw e }
 -- B pushed if full and emptied.
 push_b_of_is : (q : Bool) (core : List ℕ) (g : Registers) {len : ℕ} → length core ≡ len
     → Planned (push_b_of (state_of core (set_b g q g.b))) (slot_if q len g.s g.r) (λ t. state_of (put_of q t g.b core) (set_b (set_s g t) false (emptied q g.b)))
-unfolding push_b_of slot_if emptied if◌then◌else◌ ◌>>=◌
+unfolding push_b_of slot_if emptied if◌then◌otherwise◌ ◌>>=◌
 push_b_of_is true core g e = changed empty_b (pushes (state_of core (set_b g true g.b)) g.b e)
 push_b_of_is false core g e = record { plan = refl }
 
@@ -52,7 +52,7 @@ push_b st e = push_b_of_is st.regs.bfull st.core st.regs e
 -- A pushed if full and emptied.
 push_a_of_is : (p : Bool) (core : List ℕ) (g : Registers) {len : ℕ} → length core ≡ len
     → Planned (push_a_of (state_of core (set_a g p g.a))) (slot_if p len g.s g.r) (λ t. state_of (put_of p t g.a core) (set_a (set_s g t) false (emptied p g.a)))
-unfolding push_a_of slot_if emptied if◌then◌else◌ ◌>>=◌
+unfolding push_a_of slot_if emptied if◌then◌otherwise◌ ◌>>=◌
 push_a_of_is true core g e = changed empty_a (pushes (state_of core (set_a g true g.a)) g.a e)
 push_a_of_is false core g e = record { plan = refl }
 
@@ -63,16 +63,16 @@ push_a st e = push_a_of_is st.regs.afull st.core st.regs e
 -- "argument off, push MSCW and F:=S"
 pub marks : (argument : Bool) (st : State) {len : ℕ} → length st.core ≡ len
     → Planned (mark_of argument st) (slot_if (not argument) len st.regs.s st.regs.r)
-    (λ t. record { core = put_of (not argument) t (mscw_of st.regs.r st.regs.msff st.regs.salf st.regs.f) st.core; regs = set_f (set_s st.regs t) (if argument then st.regs.f else t) })
-unfolding mark_of slot_if if◌then◌else◌ ◌>>=◌
+    (λ t. record { core = put_of (not argument) t (mscw_of st.regs.r st.regs.msff st.regs.salf st.regs.f) st.core; regs = set_f (set_s st.regs t) (if argument then st.regs.f otherwise t) })
+unfolding mark_of slot_if if◌then◌otherwise◌ ◌>>=◌
 marks true st e = record { plan = refl }
 marks false st e = changed (λ u. with_f u u.regs.s) (pushes st _ e)
 
 -- "if SALF on and MSFF off, write that MSCW also at 64R+7"
 also_of_is : (live : Bool) (o : Res ℕ) (st : State) (m w : ℕ)
-    → (if live then (o >>= (λ t. on (store st t w))) else on st)
-    ≡ ((if live then o else on m) >>= (λ t. on (record { core = put_of live t w st.core; regs = st.regs })))
-unfolding if◌then◌else◌ ◌>>=◌
+    → (if live then (o >>= (λ t. on (store st t w))) otherwise on st)
+    ≡ ((if live then o otherwise on m) >>= (λ t. on (record { core = put_of live t w st.core; regs = st.regs })))
+unfolding if◌then◌otherwise◌ ◌>>=◌
 also_of_is true o st m w = refl
 also_of_is false o st m w = refl
 

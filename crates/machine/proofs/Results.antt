@@ -16,7 +16,7 @@ use Rattle.machine.proofs.Calculus.{is_yes, is_no}
 use Rattle.machine.proofs.Integers.{held, reads_one, fits_whole, bits_zero, zero_bits}
 use Rattle.word.specs.Layout.{exponent_of}
 use Rattle.word.specs.Numbers.{value_of, whole_of, operand_of, the, given_back, says_whole, says_made}
-use Rattle.word.specs.Choices.{if◌then◌else◌}
+use Rattle.word.specs.Choices.{if◌then◌otherwise◌}
 use Rattle.word.specs.declared.number.Whole.{Whole}
 use Rattle.word.specs.declared.number.Whole.TheVariants.{Number}
 use Rattle.word.specs.declared.number.Made.{Made}
@@ -30,10 +30,10 @@ taken w e t = ap or_unwhole (sym e ∙ ap says_whole t)
 
 -- "Its signed whole number lies between -(2^39-1) and 2^39-1."
 pub whole_small : (w : ℕ) {r : Whole} {x : ℤ} → says_whole r ≡ whole_of w → r ≡ Number x → nat_abs x < 2 ^ 39
-unfolding whole_of if◌then◌else◌
+unfolding whole_of if◌then◌otherwise◌
 whole_small w {x = x} e t = go (eqb (exponent_of w) 0) (sym e ∙ ap says_whole t)
   where
-    go : (b : Bool) → (if b then the (value_of w) else given_back 20) ≡ the x → nat_abs x < 2 ^ 39
+    go : (b : Bool) → (if b then the (value_of w) otherwise given_back 20) ≡ the x → nat_abs x < 2 ^ 39
     go true e = subst (λ (z : ℤ). nat_abs z < 2 ^ 39) (inj e) (value_small w)
       where
         inj : {y x : ℤ} → the y ≡ the x → y ≡ x
@@ -56,7 +56,7 @@ unfolding given_of
 made h e t = ap or_unwhole (sym (ap says_made t) ∙ e) ∙ reads_one given_of h
 
 pub past_given : (z : ℤ) → 2 ^ 39 ≤ nat_abs z → halt Unwhole ≡ given_of z
-unfolding given_of operand_of if◌then◌else◌
+unfolding given_of operand_of if◌then◌otherwise◌
 past_given z h = rw (le-ltb (nat_abs z) (2 ^ 39) h)
 
 -- A result that is read back before it is given.

@@ -13,7 +13,7 @@ use Rattle.machine.specs.Outcomes.{number_of}
 use Rattle.machine.specs.States.{State, state_of}
 use Rattle.machine.specs.Steps.{next, communicated, stopped, execute_of, refusal_of}
 use Rattle.machine.specs.Runs.{Run, ends_at, run_from, run_of}
-use Rattle.word.specs.Choices.{if◌then◌else◌}
+use Rattle.word.specs.Choices.{if◌then◌otherwise◌}
 use Rattle.machine.specs.ForCode.Answers.{done_of, Ends}
 use Rattle.machine.proofs.Endings.{done_kept}
 use Rattle.machine.specs.ForCode.Sprints.{rest_of_run}
@@ -62,13 +62,13 @@ module _ {core core' : List ℕ} {r : Done} (b n : ℕ) (g : Registers) (more : 
 -- ---- the checks before a run
 
 pub run_refused : (core : List ℕ) (g : Registers) (b n : ℕ) → n ≡ refusal_of core g → (n ≡ 0 → ⊥) → ends_at n 0 (state_of core g) ≡ run_of core g b
-unfolding run_of if◌then◌else◌
+unfolding run_of if◌then◌otherwise◌
 run_refused core g b n e h = rw (← e, ne_eqb n 0 h)
 
 pub run_over : (core : List ℕ) (g : Registers) (b n : ℕ) → n ≡ refusal_of core g → n ≡ 0 → 1000000 < b → ends_at 5 0 (state_of core g) ≡ run_of core g b
-unfolding run_of if◌then◌else◌
+unfolding run_of if◌then◌otherwise◌
 run_over core g b n e z h = rw (← e, z, lt-leb b 1000000 h)
 
 pub run_steps : {r : Run} (core : List ℕ) (g : Registers) (b n : ℕ) → n ≡ refusal_of core g → n ≡ 0 → b ≤ 1000000 → r ≡ run_from b (state_of core g) → r ≡ run_of core g b
-unfolding run_of if◌then◌else◌
+unfolding run_of if◌then◌otherwise◌
 run_steps core g b n e z h d = rw (← e, z, le-leb b 1000000 h) d

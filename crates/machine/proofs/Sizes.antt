@@ -10,7 +10,7 @@ use lib.ListN.{length}
 use Rattle.machine.specs.Outcomes.{Res, on, halt, ◌>>=◌}
 use Rattle.machine.specs.States.{State}
 use Rattle.machine.specs.Memory.{in_core, read_of, base_of, pattern_of, k_address_of}
-use Rattle.word.specs.Choices.{if◌then◌else◌}
+use Rattle.word.specs.Choices.{if◌then◌otherwise◌}
 use Rattle.machine.specs.Stack.{slot_of, top_of}
 use Rattle.machine.specs.ForCode.Pushes.{slot_if}
 
@@ -19,8 +19,8 @@ pub data Gives {A : Type 0} (P : A → Type 0) : Res A → Type 0 where
   goes : {a : A} → P a → Gives P (on a)
   stops : {n : _} → Gives P (halt n)
 
-pub gives_if : {A : Type 0} {P : A → Type 0} (b : Bool) {x y : Res A} → (b ≡ true → Gives P x) → (b ≡ false → Gives P y) → Gives P (if b then x else y)
-unfolding if◌then◌else◌
+pub gives_if : {A : Type 0} {P : A → Type 0} (b : Bool) {x y : Res A} → (b ≡ true → Gives P x) → (b ≡ false → Gives P y) → Gives P (if b then x otherwise y)
+unfolding if◌then◌otherwise◌
 gives_if true f g = f refl
 gives_if false f g = g refl
 

@@ -24,7 +24,7 @@ use Rattle.machine.specs.Arithmetics.{taken_of, two_of}
 use Rattle.machine.specs.Branches.{landing_of, jump_of, if_off_of}
 use Rattle.machine.specs.Steps.{Ended, next, plain, operate_of, perform_of, execute_of}
 use Rattle.machine.specs.Runs.{Run}
-use Rattle.word.specs.Choices.{if◌then◌else◌}
+use Rattle.word.specs.Choices.{if◌then◌otherwise◌}
 use Rattle.machine.specs.ForCode.Sprints.{upon, under_of, element_of, raised, Quickly, Waits, Hurries, rest_of_run}
 use Rattle.machine.proofs.Calculus.{is_yes, is_no, is_given}
 use Rattle.machine.proofs.Indexes.{index_small}
@@ -86,11 +86,11 @@ place_upon core g t here a = refl
 
 module _ (core : List ℕ) (g : Registers) (t : Hot) where
   a_there : t.afull ≡ false → a_empty_of (state_of core (upon g t)) ≡ on (state_of core (upon g t))
-  unfolding a_empty_of if◌then◌else◌
+  unfolding a_empty_of if◌then◌otherwise◌
   a_there e = rw e
 
   a_moves : t.afull ≡ true → t.bfull ≡ false → a_empty_of (state_of core (upon g t)) ≡ on (state_of core (upon g (record { a = 0; b = t.a; afull = false; bfull = true; c = t.c; l = t.l })))
-  unfolding a_empty_of push_b_of if◌then◌else◌ ◌>>=◌
+  unfolding a_empty_of push_b_of if◌then◌otherwise◌ ◌>>=◌
   a_moves e f = rw (e, f)
 
   pub fill_in : (w : ℕ) → t.afull ≡ false → next (state_of core (upon g (record { a = w; b = t.b; afull = true; bfull = t.bfull; c = t.c; l = t.l }))) ≡ plain (litc_of (state_of core (upon g t)) w)
@@ -104,7 +104,7 @@ module _ (core : List ℕ) (g : Registers) (t : Hot) where
 -- ---- OPDC of an operand brings its word to A
 
 called : (core : List ℕ) (g : Registers) (t u : Hot) (here k m : ℕ) → a_empty_of (state_of core (upon g t)) ≡ on (state_of core (upon g u)) → k_address_of here (state_of core g) k ≡ on m → flag_of (get_or core m 0) ≡ false → litc_of (state_of core (upon g t)) (get_or core m 0) ≡ call_k_of false here (state_of core (upon g t)) k
-unfolding litc_of call_k_of fetched_of call_of left_of kind_of if◌then◌else◌ ◌>>=◌
+unfolding litc_of call_k_of fetched_of call_of left_of kind_of if◌then◌otherwise◌ ◌>>=◌
 called core g t u here k m e a f = rw (e, address_upon core g u here k, a, f)
 
 pub call_operand : (core : List ℕ) (g : Registers) (t : Hot) (here k m : ℕ) → (t.afull && t.bfull) ≡ false → k_address_of here (state_of core g) k ≡ on m → flag_of (get_or core m 0) ≡ false → plain (litc_of (state_of core (upon g t)) (get_or core m 0)) ≡ plain (call_k_of false here (state_of core (upon g t)) k)
@@ -118,7 +118,7 @@ call_operand core g t here k m h a f = ap plain (go t.afull t.bfull refl refl h)
 -- ---- OPDC of any word, where no word is pushed
 
 pub call_raised : (core : List ℕ) (g : Registers) (t : Hot) (here k m : ℕ) → (t.afull && t.bfull) ≡ false → k_address_of here (state_of core g) k ≡ on m → plain (call_of false m (state_of core (upon g (raised t (get_or core m 0))))) ≡ plain (call_k_of false here (state_of core (upon g t)) k)
-unfolding call_k_of fetched_of raised if◌then◌else◌ ◌>>=◌
+unfolding call_k_of fetched_of raised if◌then◌otherwise◌ ◌>>=◌
 call_raised core g t here k m h a = ap plain (go t.afull t.bfull refl refl h)
   where
     go : (x y : Bool) → t.afull ≡ x → t.bfull ≡ y → (x && y) ≡ false → call_of false m (state_of core (upon g (raised t (get_or core m 0)))) ≡ call_k_of false here (state_of core (upon g t)) k
@@ -139,8 +139,8 @@ unfolding ◌>>=◌
 of_given (on x) f e k = k x refl e
 of_given (halt n) f e k = absurd (clash e)
 
-of_no : {B G : Type 0} (n : Cause) (b : Bool) (o : Res B) {y : B} → (if b then halt n else o) ≡ on y → (b ≡ false → o ≡ on y → G) → G
-unfolding if◌then◌else◌
+of_no : {B G : Type 0} (n : Cause) (b : Bool) (o : Res B) {y : B} → (if b then halt n otherwise o) ≡ on y → (b ≡ false → o ≡ on y → G) → G
+unfolding if◌then◌otherwise◌
 of_no n true o e k = absurd (clash e)
 of_no n false o e k = k refl e
 
@@ -156,7 +156,7 @@ module _ (core : List ℕ) (g : Registers) (t : Hot) (x d : ℕ) where
   called_with = state_of core (upon g (record { a = d; b = x; afull = true; bfull = true; c = t.c; l = t.l }))
 
   b_there : b_full_of called_with ≡ on called_with
-  unfolding b_full_of if◌then◌else◌ called_with
+  unfolding b_full_of if◌then◌otherwise◌ called_with
   b_there = refl
 
   indexes : (i e : ℕ) → index_of x (size_of d) ≡ on i → with_field (with_field d 8 17 0) 33 47 (sum_of (address_of d) i) ≡ e → on (state_of core (upon g (record { a = e; b = 0; afull = true; bfull = false; c = t.c; l = t.l }))) ≡ indexed_of called_with d
@@ -170,7 +170,7 @@ module _ (core : List ℕ) (g : Registers) (t : Hot) (x d : ℕ) where
   finds i e m w h q o r f = is_given _ (sym (indexes i e h q)) (is_no _ _ refl (is_given _ (ap (read_of core) (sym o) ∙ r) (is_no _ _ f refl)))
 
   calls_data : (m : ℕ) → flag_of d ≡ true → sign_of d ≡ false → presence_of d ≡ true → under_of t ≡ on x → data_call_of false called_with d ≡ call_of false m (state_of core (upon g (raised t d)))
-  unfolding call_of kind_of raised under_of if◌then◌else◌ called_with
+  unfolding call_of kind_of raised under_of if◌then◌otherwise◌ called_with
   calls_data m f s p u = go t.afull t.bfull refl refl
     where
       go : (v b : Bool) → t.afull ≡ v → t.bfull ≡ b → data_call_of false called_with d ≡ call_of false m (state_of core (upon g (raised t d)))
@@ -195,7 +195,7 @@ element_test d {s} e f h = ap (λ (x : Bool). x || not (presence_of d)) (sym e) 
 
 module _ (core : List ℕ) (g : Registers) (t : Hot) (full : (t.afull && t.bfull) ≡ true) where
   both_there : both_full_of (state_of core (upon g t)) ≡ on (state_of core (upon g t))
-  unfolding both_full_of a_full_of b_full_of if◌then◌else◌ ◌>>=◌
+  unfolding both_full_of a_full_of b_full_of if◌then◌otherwise◌ ◌>>=◌
   both_there = rw (first t.afull t.bfull full, second t.afull t.bfull full)
 
   pub two_both : (f : ℤ → ℤ → Res ℕ) (w : ℕ) → (taken_of t.a >>= (λ x. taken_of t.b >>= (λ y. f y x))) ≡ on w → on (state_of core (upon g (record { a = 0; b = w; afull = false; bfull = true; c = t.c; l = t.l }))) ≡ two_of f (state_of core (upon g t))
@@ -210,10 +210,10 @@ module _ (core : List ℕ) (g : Registers) (t : Hot) (full : (t.afull && t.bfull
   unfolding std_of
   std_both here m e = is_given _ (sym (snd_both here m e)) refl
 
-  pub stores_kept : {core' : List ℕ} (here m : ℕ) (keep : Bool) → place_of here (state_of core g) t.a ≡ on m → core' ≡ set core m t.b → keep ≡ true → Hurries core core' g (On (record { a = 0; b = t.b; afull = false; bfull = t.bfull; c = t.c; l = t.l })) (plain (if keep then snd_of here (state_of core (upon g t)) else std_of here (state_of core (upon g t))))
+  pub stores_kept : {core' : List ℕ} (here m : ℕ) (keep : Bool) → place_of here (state_of core g) t.a ≡ on m → core' ≡ set core m t.b → keep ≡ true → Hurries core core' g (On (record { a = 0; b = t.b; afull = false; bfull = t.bfull; c = t.c; l = t.l })) (plain (if keep then snd_of here (state_of core (upon g t)) otherwise std_of here (state_of core (upon g t))))
   stores_kept here m keep e p k = record { same = ap (λ (l : List ℕ). next (state_of l (upon g (record { a = 0; b = t.b; afull = false; bfull = t.bfull; c = t.c; l = t.l })))) p ∙ ap plain (is_yes _ _ k (snd_both here m e)); kept = tt }
 
-  pub stores_all : {core' : List ℕ} (here m : ℕ) (keep : Bool) → place_of here (state_of core g) t.a ≡ on m → core' ≡ set core m t.b → keep ≡ false → Hurries core core' g (On (record { a = 0; b = 0; afull = false; bfull = false; c = t.c; l = t.l })) (plain (if keep then snd_of here (state_of core (upon g t)) else std_of here (state_of core (upon g t))))
+  pub stores_all : {core' : List ℕ} (here m : ℕ) (keep : Bool) → place_of here (state_of core g) t.a ≡ on m → core' ≡ set core m t.b → keep ≡ false → Hurries core core' g (On (record { a = 0; b = 0; afull = false; bfull = false; c = t.c; l = t.l })) (plain (if keep then snd_of here (state_of core (upon g t)) otherwise std_of here (state_of core (upon g t))))
   stores_all here m keep e p k = record { same = ap (λ (l : List ℕ). next (state_of l (upon g (record { a = 0; b = 0; afull = false; bfull = false; c = t.c; l = t.l })))) p ∙ ap plain (is_no _ _ k (std_both here m e)); kept = tt }
 
   pub falls_through : (back : Bool) → t.b % 2 ≡ 1 → next (state_of core (upon g (record { a = 0; b = 0; afull = false; bfull = false; c = t.c; l = t.l }))) ≡ plain (if_off_of back (state_of core (upon g t)))
@@ -233,11 +233,11 @@ pub as_operator : (here n k : ℕ) (st : State) → n ≤ 11 → operate_of here
 unfolding perform_of
 as_operator here n k st h = rw (ne_eqb n 37 (λ e. omega arith), ne_eqb n 38 (λ e. omega arith), ne_eqb n 39 (λ e. omega arith))
 
-pub as_store : (here n k : ℕ) (st : State) → (eqb n 27 || eqb n 28) ≡ true → plain (if eqb n 28 then snd_of here st else std_of here st) ≡ perform_of here (syllable_numbered n k) st
-unfolding perform_of operate_of if◌then◌else◌
+pub as_store : (here n k : ℕ) (st : State) → (eqb n 27 || eqb n 28) ≡ true → plain (if eqb n 28 then snd_of here st otherwise std_of here st) ≡ perform_of here (syllable_numbered n k) st
+unfolding perform_of operate_of if◌then◌otherwise◌
 as_store here n k st h = go (eqb n 27) (eqb n 28) refl refl h
   where
-    go : (x y : Bool) → eqb n 27 ≡ x → eqb n 28 ≡ y → (x || y) ≡ true → plain (if eqb n 28 then snd_of here st else std_of here st) ≡ perform_of here (syllable_numbered n k) st
+    go : (x y : Bool) → eqb n 27 ≡ x → eqb n 28 ≡ y → (x || y) ≡ true → plain (if eqb n 28 then snd_of here st otherwise std_of here st) ≡ perform_of here (syllable_numbered n k) st
     go true y e _ _ = rw (eqb-true n 27 e)
     go false true _ f _ = rw (eqb-true n 28 f)
     go false false _ _ z = absurd (false≢true z)

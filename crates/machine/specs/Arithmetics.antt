@@ -2,7 +2,7 @@
 use Rattle.std.specs.Prelude.{ℕ, Bool, not, ◌&&◌, eqb, ℤ, nat_abs, ◌+ℤ◌, ◌-ℤ◌, ◌*ℤ◌}
 use Rattle.std.specs.Int.Signed.{lt_z, le_z, quot_z, rem_z}
 use Rattle.machine.specs.declared.outcome.Cause.TheVariants.{Unwhole, ZeroDivisor}
-use Rattle.machine.specs.Outcomes.{Res, on, halt, ◌>>=◌, if◌then◌else◌}
+use Rattle.machine.specs.Outcomes.{Res, on, halt, ◌>>=◌, if◌then◌otherwise◌}
 use Rattle.machine.specs.States.{State, empty_a, fill_b}
 use Rattle.machine.specs.Stack.{both_full_of}
 use Rattle.word.specs.Field.{one_of}
@@ -27,7 +27,7 @@ given_of z = or_unwhole (operand_of z)
 
 -- "A zero in IDV, RDV: 21"
 unfoldable pub divided_of : ℤ → ℤ → Res ℕ
-divided_of x z = if eqb (nat_abs x) 0 then halt ZeroDivisor else given_of z
+divided_of x z = if eqb (nat_abs x) 0 then halt ZeroDivisor otherwise given_of z
 
 -- "ADD, SUB (B-A), MUL, IDV (toward zero), RDV (sign of B)": of B's number y and A's number x.
 unfoldable pub reckon_of : Arithmetic → ℤ → ℤ → Res ℕ

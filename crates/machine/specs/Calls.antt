@@ -1,7 +1,7 @@
 -- OPDC, DESC and calling A.
 use Rattle.std.specs.Prelude.{ℕ, Bool, true, false, not, ◌&&◌, eqb, ltb, ℤ, pos, negsuc}
 use Rattle.machine.specs.declared.outcome.Cause.TheVariants.{Presence, Flag, Index, Unbuilt}
-use Rattle.machine.specs.Outcomes.{Res, on, halt, ◌>>=◌, if◌then◌else◌}
+use Rattle.machine.specs.Outcomes.{Res, on, halt, ◌>>=◌, if◌then◌otherwise◌}
 use Rattle.machine.specs.States.{State, fill_a, empty_a, empty_b, with_f, with_cl, with_salf, with_msff, word_at}
 use Rattle.machine.specs.Memory.{read_of, k_address_of}
 use Rattle.machine.specs.Stack.{push_of, push_b_of, a_empty_of, b_full_of}
@@ -15,7 +15,7 @@ use Rattle.word.specs.declared.kinds.Kind.TheVariants.{Operand, Data, Program, C
 
 -- "below 0 or at least size: 15; -0 is 0"
 unfoldable pub within_of : ℤ → ℕ → Res ℕ
-within_of (pos n) size = if ltb n size then on n else halt Index
+within_of (pos n) size = if ltb n size then on n otherwise halt Index
 within_of (negsuc n) size = halt Index
 
 -- "take B as index (exponent not 0: 20; .. flag ignored)"
@@ -28,7 +28,7 @@ index_of w size = do
 unfoldable pub indexed_of : State → ℕ → Res State
 indexed_of st d =
     if eqb (size_of d) 0 then on st
-    else
+    otherwise
     (do
       u ← b_full_of st
       i ← index_of u.regs.b (size_of d)
@@ -38,19 +38,19 @@ indexed_of st d =
 unfoldable pub load_of : State → Res State
 load_of st = do
   w ← read_of st.core (address_of st.regs.a)
-  if flag_of w then halt Flag else on (fill_a st w)
+  if flag_of w then halt Flag otherwise on (fill_a st w)
 
 -- "DESC leaves the descriptor. Size 0: the same without index."
 unfoldable pub data_call_of : Bool → State → ℕ → Res State
 data_call_of desc st d = do
   u ← indexed_of st d
-  if desc then on u else load_of u
+  if desc then on u otherwise load_of u
 
 -- "argument off, push MSCW and F:=S"
 unfoldable pub mark_of : Bool → State → Res State
 mark_of argument st =
     if argument then on st
-    else
+    otherwise
     (do
       u ← push_of st (mscw_of st.regs.r st.regs.msff st.regs.salf st.regs.f)
       on (with_f u u.regs.s))
@@ -62,25 +62,25 @@ enter_of desc st d = do
   u ← push_b_of (empty_a st)
   v ← mark_of (argument_of d) u
   w ← push_of v (rcw_of desc v.regs.l v.regs.f v.regs.c)
-  on (with_msff (with_salf (with_cl (with_f w (if argument_of d then w.regs.s else f_field_of d)) (address_of d) 0) true) false)
+  on (with_msff (with_salf (with_cl (with_f w (if argument_of d then w.regs.s otherwise f_field_of d)) (address_of d) 0) true) false)
 
 -- "Program descriptor: mode on, 19; argument on with MSFF off, left in A; otherwise enter"
 unfoldable pub program_call_of : Bool → State → ℕ → Res State
 program_call_of desc st d =
     if mode_of d then halt Unbuilt
-    else if argument_of d && not st.regs.msff then on st
-    else enter_of desc st d
+    otherwise if argument_of d && not st.regs.msff then on st
+    otherwise enter_of desc st d
 
 -- "Operand or control word: OPDC leaves it; DESC makes bits 0 and 2 on, address m, all else 0."
 unfoldable pub left_of : Bool → ℕ → State → Res State
-left_of desc m st = if desc then on (fill_a st (data_of true 0 m)) else on st
+left_of desc m st = if desc then on (fill_a st (data_of true 0 m)) otherwise on st
 
 -- "Calling A. Data or program descriptor with presence off: 13."
 abbrev pub call_as : Kind → Bool → ℕ → State → ℕ → Res State
 call_as Operand desc m st d = left_of desc m st
 call_as Control desc m st d = left_of desc m st
-call_as Data desc m st d = if presence_of d then data_call_of desc st d else halt Presence
-call_as Program desc m st d = if presence_of d then program_call_of desc st d else halt Presence
+call_as Data desc m st d = if presence_of d then data_call_of desc st d otherwise halt Presence
+call_as Program desc m st d = if presence_of d then program_call_of desc st d otherwise halt Presence
 
 unfoldable pub call_of : Bool → ℕ → State → Res State
 call_of desc m st = call_as (kind_of st.regs.a) desc m st st.regs.a

@@ -1,7 +1,7 @@
 -- MKS and XIT.
 use Rattle.std.specs.Prelude.{ℕ, zero, suc, ◌-◌, true, not, ◌&&◌, List, eqb}
 use Rattle.machine.specs.declared.outcome.Cause.TheVariants.{Address, Flag}
-use Rattle.machine.specs.Outcomes.{Res, on, halt, ◌>>=◌, if◌then◌else◌}
+use Rattle.machine.specs.Outcomes.{Res, on, halt, ◌>>=◌, if◌then◌otherwise◌}
 use Rattle.machine.specs.States.{State, empty_a, empty_b, with_s, with_f, with_cl, with_r, with_salf, with_msff}
 use Rattle.machine.specs.Memory.{read_of, store_of}
 use Rattle.machine.specs.Stack.{push_of, push_a_of, push_b_of}
@@ -10,7 +10,7 @@ use Rattle.word.specs.Addresses.{cell_address}
 
 -- "if SALF on and MSFF off, write that MSCW also at 64R+7 (11)"
 unfoldable pub also_of : State → ℕ → Res State
-also_of st m = if st.regs.salf && not st.regs.msff then store_of st (cell_address st.regs.r 7) m else on st
+also_of st m = if st.regs.salf && not st.regs.msff then store_of st (cell_address st.regs.r 7) m otherwise on st
 
 -- "MKS: push B, then A, if full; push MSCW; F:=S; .. ; MSFF on."
 unfoldable pub mks_of : State → Res State
@@ -25,18 +25,18 @@ mks_of st = do
 unfoldable pub control_of : List ℕ → ℕ → Res ℕ
 control_of core m = do
   w ← read_of core m
-  if flag_of w then on w else halt Flag
+  if flag_of w then on w otherwise halt Flag
 
 -- "the word at the new F gives R, MSFF, SALF, F, and S becomes its address less 1 (address 0: 11)"
 unfoldable pub mark_at_of : List ℕ → ℕ → Res ℕ
-mark_at_of core m = if eqb m 0 then halt Address else control_of core m
+mark_at_of core m = if eqb m 0 then halt Address otherwise control_of core m
 
 -- "read at F, follow F fields while bit 16 is on (11 outside core, or bit 16 still on at the 32,768th read)"
 unfoldable pub chain_of : ℕ → List ℕ → ℕ → Res ℕ
 chain_of zero core m = halt Address
 chain_of (suc reads) core m = do
   w ← read_of core m
-  if mscw_msff_of w then chain_of reads core (f_field_of w) else on w
+  if mscw_msff_of w then chain_of reads core (f_field_of w) otherwise on w
 
 -- "If MSFF and SALF are now both on, .. write the last word at 64R+7."
 unfoldable pub restore_of : State → Res State
@@ -45,7 +45,7 @@ restore_of st =
     (do
       w ← chain_of 32768 st.core st.regs.f
       store_of st (cell_address st.regs.r 7) w)
-    else on st
+    otherwise on st
 
 -- "Empty A, B; the word at F gives C, L, F; the word at the new F gives R, MSFF, SALF, F, and S becomes its address less 1"
 unfoldable pub leave_of : State → Res State
@@ -64,4 +64,4 @@ xit_of st =
     (do
       u ← leave_of st
       restore_of u)
-    else on st
+    otherwise on st

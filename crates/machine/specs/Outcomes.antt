@@ -2,7 +2,7 @@
 use Rattle.std.specs.Prelude.{ℕ}
 use Rattle.machine.specs.declared.outcome.Cause.{Cause}
 use Rattle.machine.specs.declared.outcome.Cause.TheVariants.{Address, Overflow, Presence, Flag, Index, Unbuilt, Unwhole, ZeroDivisor}
-unfoldable pub use Rattle.word.specs.Choices.{if◌then◌else◌}
+unfoldable pub use Rattle.word.specs.Choices.{if◌then◌otherwise◌}
 
 infixl 20 ◌>>=◌
 pub data Res (A : Type 0) : Type 0 where

@@ -2,7 +2,7 @@
 use Rattle.std.specs.Prelude.{ℕ, zero, suc, ◌+◌, List, eqb, leb}
 use Rattle.machine.specs.declared.outcome.Registers.{Registers}
 use Rattle.machine.specs.declared.outcome.Ran.{Ran}
-use Rattle.machine.specs.Outcomes.{number_of, if◌then◌else◌}
+use Rattle.machine.specs.Outcomes.{number_of, if◌then◌otherwise◌}
 use Rattle.machine.specs.States.{State, state_of}
 use Rattle.machine.specs.Steps.{Ended, next, communicated, stopped, execute_of, refusal_of}
 
@@ -35,8 +35,8 @@ run_from (suc budget) st = goes_on (execute_of st) (run_from budget) st
 unfoldable pub run_of : List ℕ → Registers → ℕ → Run
 run_of core g budget =
     if eqb (refusal_of core g) 0 then
-    (if leb budget 1000000 then run_from budget (state_of core g) else ends_at 5 0 (state_of core g))
-    else ends_at (refusal_of core g) 0 (state_of core g)
+    (if leb budget 1000000 then run_from budget (state_of core g) otherwise ends_at 5 0 (state_of core g))
+    otherwise ends_at (refusal_of core g) 0 (state_of core g)
 
 -- A run's answer with the core that it left.
 abbrev pub ran_of : Ran → List ℕ → Run

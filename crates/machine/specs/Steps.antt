@@ -4,7 +4,7 @@ use Rattle.machine.specs.declared.outcome.Cause.{Cause}
 use Rattle.machine.specs.declared.outcome.Cause.TheVariants.{Unbuilt}
 use Rattle.machine.specs.declared.outcome.Registers.{Registers}
 use Rattle.machine.specs.declared.outcome.Answer.{Answer}
-use Rattle.machine.specs.Outcomes.{Res, on, halt, number_of, if◌then◌else◌}
+use Rattle.machine.specs.Outcomes.{Res, on, halt, number_of, if◌then◌otherwise◌}
 use Rattle.machine.specs.States.{State, state_of, with_cl}
 use Rattle.machine.specs.Memory.{read_of}
 use Rattle.machine.specs.Arithmetics.{two_of, reckon_of, relate_of}
@@ -98,7 +98,7 @@ execute_of st = fetched_by (read_of st.core st.regs.c) st
 
 -- "each full or empty; empty holds 0"
 abbrev pub holds_word : Bool → ℕ → Bool
-holds_word full x = if full then ltb x (2 ^ 48) else eqb x 0
+holds_word full x = if full then ltb x (2 ^ 48) otherwise eqb x 0
 
 -- "3: a register .. out of range, or an empty register not 0": S, F, C 15 bits, R 9, L 2
 unfoldable pub registers_fit : Registers → Bool
@@ -110,7 +110,7 @@ registers_fit g =
 -- "Order: 1, 2, 3": the first that fails, or 0.
 unfoldable pub refusal_of : List ℕ → Registers → ℕ
 refusal_of core g =
-    if length_fits core then (if words_fit core then (if registers_fit g then 0 else 3) else 2) else 1
+    if length_fits core then (if words_fit core then (if registers_fit g then 0 otherwise 3) otherwise 2) otherwise 1
 
 -- A number given back, the core and the registers.
 pub record Stepped : Type 0 where
@@ -127,7 +127,7 @@ ended_as (stopped n) st = record { number = number_of n; core = st.core; regs = 
 unfoldable pub step_of : List ℕ → Registers → Stepped
 step_of core g =
     if eqb (refusal_of core g) 0 then ended_as (execute_of (state_of core g)) (state_of core g)
-    else record { number = refusal_of core g; core = core; regs = g }
+    otherwise record { number = refusal_of core g; core = core; regs = g }
 
 -- A step's answer with the core that it left.
 abbrev pub answered : Answer → List ℕ → Stepped

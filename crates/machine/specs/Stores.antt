@@ -1,7 +1,7 @@
 -- LITC, LOD, STD, SND and COM.
 use Rattle.std.specs.Prelude.{ℕ, length}
 use Rattle.machine.specs.declared.outcome.Cause.TheVariants.{Presence}
-use Rattle.machine.specs.Outcomes.{Res, on, halt, ◌>>=◌, if◌then◌else◌}
+use Rattle.machine.specs.Outcomes.{Res, on, halt, ◌>>=◌, if◌then◌otherwise◌}
 use Rattle.machine.specs.States.{State, fill_a, empty_a, empty_b, word_at, store}
 use Rattle.machine.specs.Memory.{in_core, store_of, k_address_of}
 use Rattle.machine.specs.Stack.{a_empty_of, a_full_of, both_full_of}
@@ -18,8 +18,8 @@ litc_of st k = do
 -- "Place: flag off, the address of A's low 10 bits; flag on, bit 2 off, 13, else bits 33-47, outside core 11."
 unfoldable pub place_of : ℕ → State → ℕ → Res ℕ
 place_of here st a =
-    if flag_of a then (if presence_of a then in_core (length st.core) (address_of a) else halt Presence)
-    else k_address_of here st (field a 38 47)
+    if flag_of a then (if presence_of a then in_core (length st.core) (address_of a) otherwise halt Presence)
+    otherwise k_address_of here st (field a 38 47)
 
 -- "LOD: one; A replaced by the word at A's place."
 unfoldable pub lod_of : ℕ → State → Res State

@@ -1,6 +1,6 @@
 // OPDC, DESC and calling A.
 ghost use Rattle.std.specs.Prelude.{◌≡◌, true, List, ℕ, ◌≤◌, length, get_or};
-ghost use Rattle.word.specs.Choices.{if◌then◌else◌};
+ghost use Rattle.word.specs.Choices.{if◌then◌otherwise◌};
 ghost use Rattle.machine.specs.Calls.{index_of, indexed_of, load_of, data_call_of, enter_of, program_call_of, left_of, call_of, fetched_of, call_k_of};
 ghost use Rattle.machine.specs.ForCode.Pushes.{framed_of, entered_of};
 ghost use Rattle.machine.specs.ForCode.Answers.{spot_says, went_of, Does};
@@ -103,7 +103,7 @@ fn data_call(core: &[u64], desc: bool, g: Registers, d: u64) -> Went
 
 // One of two addresses.
 fn pick(first: bool, x: u16, y: u16) -> u16
-    ensures { result ≡ (if first then x else y) }
+    ensures { result ≡ (if first then x otherwise y) }
 {
     if first {
         return x;

@@ -1,6 +1,6 @@
 // The sprint: the common cases of the common syllables, over few registers; all else is left to the full step.
 ghost use Rattle.std.specs.Prelude.{◌≡◌, true, false, List, ℕ, ◌≤◌, ◌<◌, length};
-ghost use Rattle.word.specs.Choices.{if◌then◌else◌};
+ghost use Rattle.word.specs.Choices.{if◌then◌otherwise◌};
 ghost use Rattle.machine.specs.Stores.{litc_of, snd_of, std_of};
 ghost use Rattle.machine.specs.Calls.{call_of, call_k_of};
 ghost use Rattle.machine.specs.Branches.{if_off_of};
@@ -158,7 +158,7 @@ fn both(t: Hot, n: u8) -> Hurry
 
 // STD and SND, both registers being full.
 fn stored(core: &mut [u64], here: u16, g: Registers, t: Hot, keep: bool) -> Hurry
-    ensures { Hurries core.old core.new g result (plain_of (if keep then snd_of here (state_of core.old (upon g t)) else std_of here (state_of core.old (upon g t)))) }
+    ensures { Hurries core.old core.new g result (plain_of (if keep then snd_of here (state_of core.old (upon g t)) otherwise std_of here (state_of core.old (upon g t)))) }
 {
     if t.afull & t.bfull {
         let m = match place(&core[..], here, g, t.a) {

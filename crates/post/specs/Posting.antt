@@ -1,6 +1,6 @@
 -- Posting: a segment is inspected and, where it passed, run from the sheet's start.
 use Rattle.std.specs.Prelude.{ℕ, ◌≡◌, ◌≢◌, List, eqb, leb}
-use Rattle.word.specs.Choices.{if◌then◌else◌}
+use Rattle.word.specs.Choices.{if◌then◌otherwise◌}
 use Rattle.machine.specs.declared.outcome.Registers.{Registers}
 use Rattle.machine.specs.States.{State, no_registers}
 use Rattle.machine.specs.Runs.{Run, run_from}
@@ -27,8 +27,8 @@ ran r = record { number = 0; place = 0; stop = r.stop; completed = r.completed; 
 
 unfoldable pub post_of : List ℕ → List ℕ → ℕ → Posting
 post_of core sheet budget =
-    if eqb (verdict_of core sheet).number 0 then (if leb budget 1000000 then ran (run_from budget (start_of core sheet)) else turned_away 5 0 core)
-    else turned_away (verdict_of core sheet).number (verdict_of core sheet).place core
+    if eqb (verdict_of core sheet).number 0 then (if leb budget 1000000 then ran (run_from budget (start_of core sheet)) otherwise turned_away 5 0 core)
+    otherwise turned_away (verdict_of core sheet).number (verdict_of core sheet).place core
 
 -- A posting's answer with the core that it left.
 abbrev pub posted_of : Posted → List ℕ → Posting

@@ -10,7 +10,7 @@ use lib.ListN.{length, take, drop, get_or, set, length-append}
 use lib.Seq.{sets-eq, length-take-le, take-suc, take_at, take_all}
 use Rattle.word.specs.Digits.{digits}
 use Rattle.word.proofs.Places.{digits_length}
-use Rattle.word.specs.Choices.{if◌then◌else◌}
+use Rattle.word.specs.Choices.{if◌then◌otherwise◌}
 use Rattle.tape.specs.Files.{bytes_of, write_number_of, write_file_of}
 
 pub six_stored : (room : List ℕ) (at w : ℕ) → at + 6 ≤ length room
@@ -62,9 +62,9 @@ spread_end core room i h k l e =
 -- ---- a core is written, or nothing is
 
 pub write_yes : (core room : List ℕ) {new : List ℕ} → write_number_of core (length room) ≡ 0 → new ≡ bytes_of core → new ≡ write_file_of core room
-unfolding write_file_of if◌then◌else◌
+unfolding write_file_of if◌then◌otherwise◌
 write_yes core room z e = rw (eq-eqb (write_number_of core (length room)) 0 z) e
 
 pub write_no : (core room : List ℕ) → (write_number_of core (length room) ≡ 0 → ⊥) → room ≡ write_file_of core room
-unfolding write_file_of if◌then◌else◌
+unfolding write_file_of if◌then◌otherwise◌
 write_no core room n = rw (ne_eqb (write_number_of core (length room)) 0 n)

@@ -8,7 +8,7 @@ use borrow.Author.Tests.{eq-eqb, ne_eqb}
 use lib.ListN.{length, take, drop, get_or, set}
 use lib.Seq.{drop-cons, drop-drop, take-suc-set, take_all}
 use Rattle.word.specs.Digits.{numeral}
-use Rattle.word.specs.Choices.{if◌then◌else◌}
+use Rattle.word.specs.Choices.{if◌then◌otherwise◌}
 use Rattle.tape.specs.Files.{words_of, read_number_of, read_file_of}
 
 -- The six bytes from `at` on, one by one.
@@ -57,9 +57,9 @@ fill_end bytes core i n l h m e =
 -- ---- a file is read, or nothing is written
 
 pub read_yes : (bytes core : List ℕ) {new : List ℕ} → read_number_of bytes (length core) ≡ 0 → new ≡ words_of (length core) bytes → new ≡ read_file_of bytes core
-unfolding read_file_of if◌then◌else◌
+unfolding read_file_of if◌then◌otherwise◌
 read_yes bytes core z e = rw (eq-eqb (read_number_of bytes (length core)) 0 z) e
 
 pub read_no : (bytes core : List ℕ) → (read_number_of bytes (length core) ≡ 0 → ⊥) → core ≡ read_file_of bytes core
-unfolding read_file_of if◌then◌else◌
+unfolding read_file_of if◌then◌otherwise◌
 read_no bytes core n = rw (ne_eqb (read_number_of bytes (length core)) 0 n)

@@ -1,6 +1,6 @@
 -- "Core file: six-byte records, highest byte first, no header."
 use Rattle.std.specs.Prelude.{ℕ, zero, suc, ◌*◌, ◌/◌, ◌%◌, ◌≡◌, List, [], ◌∷◌, ◌++◌, eqb, length, take, drop}
-use Rattle.word.specs.Choices.{if◌then◌else◌}
+use Rattle.word.specs.Choices.{if◌then◌otherwise◌}
 use Rattle.word.specs.Core.{count_fits, length_fits, words_fit}
 use Rattle.word.specs.Digits.{digits, numeral}
 
@@ -16,25 +16,25 @@ bytes_of (w ∷ ws) = digits 256 6 w ++ bytes_of ws
 
 -- Of a file's length in bytes: 4, "core file length not a multiple of 6"; 1, "core length 0 or over 32,768" words; else 0.
 unfoldable pub core_number_of : ℕ → ℕ
-core_number_of n = if eqb (n % 6) 0 then (if count_fits (n / 6) then 0 else 1) else 4
+core_number_of n = if eqb (n % 6) 0 then (if count_fits (n / 6) then 0 otherwise 1) otherwise 4
 
 -- "Reading a core file checks 4, then 1, into a core of its exact word count, else 1"
 unfoldable pub read_number_of : List ℕ → ℕ → ℕ
 read_number_of bytes count =
-    if eqb (core_number_of (length bytes)) 0 then (if eqb count (length bytes / 6) then 0 else 1)
-    else core_number_of (length bytes)
+    if eqb (core_number_of (length bytes)) 0 then (if eqb count (length bytes / 6) then 0 otherwise 1)
+    otherwise core_number_of (length bytes)
 
 -- "a refusal writes nothing"
 unfoldable pub read_file_of : List ℕ → List ℕ → List ℕ
-read_file_of bytes core = if eqb (read_number_of bytes (length core)) 0 then words_of (length core) bytes else core
+read_file_of bytes core = if eqb (read_number_of bytes (length core)) 0 then words_of (length core) bytes otherwise core
 
 -- "Writing needs room of exactly six bytes a word, else 4, after 1 and 2."
 unfoldable pub write_number_of : List ℕ → ℕ → ℕ
 write_number_of core room =
-    if length_fits core then (if words_fit core then (if eqb room (6 * length core) then 0 else 4) else 2) else 1
+    if length_fits core then (if words_fit core then (if eqb room (6 * length core) then 0 otherwise 4) otherwise 2) otherwise 1
 
 unfoldable pub write_file_of : List ℕ → List ℕ → List ℕ
-write_file_of core room = if eqb (write_number_of core (length room)) 0 then bytes_of core else room
+write_file_of core room = if eqb (write_number_of core (length room)) 0 then bytes_of core otherwise room
 
 -- What reading a file into a core (`old`, then `new`) leaves, and the number that it answers.
 pub record FileRead (bytes old new : List ℕ) (r : ℕ) : Type 0 where

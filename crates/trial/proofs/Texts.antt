@@ -8,7 +8,7 @@ use native.Mathlib.Numerals.{add-one}
 use borrow.Author.Tests.{eq-eqb, ne_eqb}
 use lib.ListN.{length, get_or, take, drop, set, length-set, length-append, length-drop, drop_of_length-le}
 use lib.Seq.{drop-cons, take_all, length-take-le}
-use Rattle.word.specs.Choices.{if◌then◌else◌}
+use Rattle.word.specs.Choices.{if◌then◌otherwise◌}
 use Rattle.word.specs.Digits.{digits, byte_base, to_digits_of}
 use Rattle.word.proofs.Places.{digits_length}
 use Rattle.trial.specs.declared.trials.Sum.{Sum}
@@ -60,13 +60,13 @@ spell_next ds at c i l h = omega (arith, spelled_length ds c)
 -- ---- leading zeros: i are passed
 
 zero_first : (ds : List ℕ) (i : ℕ) → i + 1 < length ds → get_or ds i 0 ≤ 0 → leading_of (drop i ds) ≡ suc (leading_of (drop (i + 1) ds))
-unfolding leading_of if◌then◌else◌
+unfolding leading_of if◌then◌otherwise◌
 zero_first ds i h z =
     let zero' : get_or ds i 0 ≡ 0 = omega arith in
     rw (add-one i, drop-cons ds i 0 (omega arith), drop-cons ds (suc i) 0 (omega arith), eq-eqb (get_or ds i 0) 0 zero')
 
 other_first : (ds : List ℕ) (i : ℕ) → i + 1 < length ds → 0 < get_or ds i 0 → leading_of (drop i ds) ≡ 0
-unfolding leading_of if◌then◌else◌
+unfolding leading_of if◌then◌otherwise◌
 other_first ds i h p =
     rw (drop-cons ds i 0 (omega arith), drop-cons ds (suc i) 0 (omega arith), ne_eqb (get_or ds i 0) 0 (λ e. absurd (omega (arith, e))))
 
@@ -80,7 +80,7 @@ pub leading_found : (ds : List ℕ) (i : ℕ) → i + 1 < length ds → 0 < get_
 leading_found ds i h p e = omega (arith, e, other_first ds i h p)
 
 short : (ds : List ℕ) → length ds ≤ 1 → leading_of ds ≡ 0
-unfolding leading_of if◌then◌else◌
+unfolding leading_of if◌then◌otherwise◌
 short [] h = refl
 short (d ∷ []) h = refl
 short (d ∷ e ∷ ds) h = absurd (omega (arith, h))
@@ -91,11 +91,11 @@ leading_end ds i h e = omega (arith, e, short (drop i ds) (omega (arith, length-
 -- ---- the digits of a number, spelled
 
 written_ten : (n : ℕ) (old : List ℕ) → to_digits_of 10 n old ≡ digits 10 (length old) n
-unfolding to_digits_of byte_base if◌then◌else◌
+unfolding to_digits_of byte_base if◌then◌otherwise◌
 written_ten n old = refl
 
 written_eight : (n : ℕ) (old : List ℕ) → to_digits_of 8 n old ≡ digits 8 (length old) n
-unfolding to_digits_of byte_base if◌then◌else◌
+unfolding to_digits_of byte_base if◌then◌otherwise◌
 written_eight n old = refl
 
 pub decimal_said : {old new ds : List ℕ} {at k r : ℕ} (zeros : List ℕ) (n c : ℕ) → length zeros ≡ 20 → ds ≡ to_digits_of 10 n zeros → k ≡ leading_of ds

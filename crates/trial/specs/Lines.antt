@@ -1,6 +1,6 @@
 -- "`17 4 1 0 31 0000000000000014`: stop, completed, C, L, S in decimal, then cell 9 in sixteen octal digits, one space between and a line feed after. A refused file prints its number alone on the line"
 use Rattle.std.specs.Prelude.{ℕ, suc, ◌+◌, ◌%◌, ◌≡◌, List, [], ◌∷◌, ◌++◌, eqb, length, drop, set}
-use Rattle.word.specs.Choices.{if◌then◌else◌}
+use Rattle.word.specs.Choices.{if◌then◌otherwise◌}
 use Rattle.word.specs.Numbers.{OrNumber, the, given_back}
 use Rattle.word.specs.Digits.{digits}
 use Rattle.trial.specs.declared.trials.Sum.{Sum}
@@ -9,7 +9,7 @@ use Rattle.trial.specs.declared.trials.Sum.{Sum}
 unfoldable pub leading_of : List ℕ → ℕ
 leading_of [] = 0
 leading_of (d ∷ []) = 0
-leading_of (d ∷ e ∷ ds) = if eqb d 0 then suc (leading_of (e ∷ ds)) else 0
+leading_of (d ∷ e ∷ ds) = if eqb d 0 then suc (leading_of (e ∷ ds)) otherwise 0
 
 -- The character of a digit: 0 is 48.
 abbrev pub glyph_of : ℕ → ℕ

@@ -7,14 +7,14 @@ use Rattle.tape.specs.Files.{words_of, core_number_of, read_number_of}
 use Rattle.trial.specs.declared.trials.Sum.{Sum}
 use Rattle.trial.specs.declared.trials.Outcome.{Outcome}
 use Rattle.trial.specs.declared.trials.Outcome.TheVariants.{Refused, Ended}
-use Rattle.word.specs.Choices.{if◌then◌else◌}
+use Rattle.word.specs.Choices.{if◌then◌otherwise◌}
 use Rattle.word.specs.Numbers.{OrNumber, the, given_back}
 
 -- Why an input is refused, or 0: by its whole length as a core file is, then "over 4,096 words is 1", then as its bytes are read.
 unfoldable pub refused_of : List ℕ → ℕ → ℕ
 refused_of bytes total =
-    if eqb (core_number_of total) 0 then (if leb (total / 6) 4096 then read_number_of bytes (total / 6) else 1)
-    else core_number_of total
+    if eqb (core_number_of total) 0 then (if leb (total / 6) 4096 then read_number_of bytes (total / 6) otherwise 1)
+    otherwise core_number_of total
 
 -- The file's words, filled up to 4,096 with 0.
 unfoldable pub filled_of : List ℕ → ℕ → List ℕ
@@ -37,7 +37,7 @@ says_outcome (Refused n) = given_back n
 unfoldable pub trial_of : List ℕ → ℕ → OrNumber Sum
 trial_of bytes total =
     if eqb (refused_of bytes total) 0 then the (summary_of (run_of (filled_of bytes (total / 6)) start 1000))
-    else given_back (refused_of bytes total)
+    otherwise given_back (refused_of bytes total)
 
 -- What a run of a core (`old`, then `new`) from the start tells and leaves.
 pub record Told (old : List ℕ) (budget : ℕ) (new : List ℕ) (r : Sum) : Type 0 where

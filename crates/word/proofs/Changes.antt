@@ -8,7 +8,7 @@ use lib.Pow.{pow_pos, pow-add, shl_exact, shr_lt}
 use lib.Arith.{digits_lt}
 use mir.Syntax.{w64}
 use mir.Val.{Fits}
-use Rattle.word.specs.Choices.{if◌then◌else◌}
+use Rattle.word.specs.Choices.{if◌then◌otherwise◌}
 use Rattle.word.specs.Field.{worth, span, field, bits_of, placed, with_field}
 
 -- The machine's 1 << n.
@@ -23,15 +23,15 @@ low_of_is x n h = rw power
 
 -- Bits that are there, and bits that are not.
 pub bits_yes : (w first last : ℕ) → first ≤ last → last ≤ 47 → field w first last ≡ bits_of w first last
-unfolding if◌then◌else◌
+unfolding if◌then◌otherwise◌
 bits_yes w first last h l = rw (le-leb first last h, le-leb last 47 l)
 
 pub bits_past : (w first last : ℕ) → first ≤ last → 47 < last → 0 ≡ bits_of w first last
-unfolding if◌then◌else◌
+unfolding if◌then◌otherwise◌
 bits_past w first last h l = rw (le-leb first last h, lt-leb last 47 l)
 
 pub bits_none : (w first last : ℕ) → last < first → 0 ≡ bits_of w first last
-unfolding if◌then◌else◌
+unfolding if◌then◌otherwise◌
 bits_none w first last h = rw (lt-leb first last h)
 
 -- What the machine's shifts give for a placed field.

@@ -13,7 +13,7 @@ use mir.ValLaws.{to_z_pos, to_z-of_z}
 use Rattle.word.specs.Field.{field, placed, one_of}
 use Rattle.word.specs.Layout.{sign_of, exponent_of, magnitude_of}
 use Rattle.word.specs.Numbers.{signed, value_of, whole_of, operand_of, negative, the, given_back}
-use Rattle.word.specs.Choices.{if◌then◌else◌}
+use Rattle.word.specs.Choices.{if◌then◌otherwise◌}
 use Rattle.word.proofs.Makings.{bit_is}
 use Rattle.word.proofs.Signed.{back, minus_fits, minus_back, abs_neg, true_false, test_back, test_back_right, casts, below_zero, not_below_zero}
 
@@ -49,19 +49,19 @@ value_small w = go (sign_of w)
     go false = magnitude_small w
 
 pub whole_yes : (w e : ℕ) (v : ℤ) → e ≡ exponent_of w → e ≡ 0 → v ≡ value_of w → the (to_z w64 (of_z w64 v)) ≡ whole_of w
-unfolding whole_of if◌then◌else◌
+unfolding whole_of if◌then◌otherwise◌
 whole_yes w e v h z q =
     let small : nat_abs v < 2 ^ 63 = omega (arith, value_small w, ap nat_abs q) in
     rw (eq-eqb (exponent_of w) 0 (sym h ∙ z)) (ap the (back v small ∙ q))
 
 pub whole_no : (w e : ℕ) → e ≡ exponent_of w → (e ≡ 0 → ⊥) → given_back 20 ≡ whole_of w
-unfolding whole_of if◌then◌else◌
+unfolding whole_of if◌then◌otherwise◌
 whole_no w e h n = rw (ne_eqb (exponent_of w) 0 (λ q. n (h ∙ q)))
 
 -- ---- the operand of a number, from the tests that the code makes on what an i64 holds
 
 past : (z : ℤ) → 2 ^ 39 ≤ nat_abs z → given_back 20 ≡ operand_of z
-unfolding operand_of if◌then◌else◌
+unfolding operand_of if◌then◌otherwise◌
 past z h = rw (le-ltb (nat_abs z) (2 ^ 39) h)
 
 below : (z : ℤ) → lt_z z (negsuc 549755813886) ≡ true → 2 ^ 39 ≤ nat_abs z
@@ -77,12 +77,12 @@ inside (pos n) s t = omega (arith, ltb-false 549755813887 n t)
 inside (negsuc n) s t = omega (arith, ltb-false 549755813886 n s)
 
 minus : (z : ℤ) (p q : ℕ) → nat_abs z < 2 ^ 39 → lt_z z (pos 0) ≡ true → p ≡ placed 1 1 1 → q ≡ placed 9 47 (nat_abs z) → the (p + q) ≡ operand_of z
-unfolding operand_of if◌then◌else◌
+unfolding operand_of if◌then◌otherwise◌
 minus (pos n) p q h t e f = absurd (true_false (sym t ∙ le-ltb n 0 zero-le))
 minus (negsuc n) p q h t e f = rw (lt-ltb (suc n) (2 ^ 39) h, e, f)
 
 plus : (z : ℤ) (p q : ℕ) → nat_abs z < 2 ^ 39 → lt_z z (pos 0) ≡ false → p ≡ placed 1 1 0 → q ≡ placed 9 47 (nat_abs z) → the (p + q) ≡ operand_of z
-unfolding operand_of if◌then◌else◌
+unfolding operand_of if◌then◌otherwise◌
 plus (pos n) p q h t e f = rw (lt-ltb n (2 ^ 39) h, e, f)
 plus (negsuc n) p q h t e f = absurd (true_false t)
 
@@ -130,7 +130,7 @@ signed_tops : (n w : ℕ) → n < 2 ^ 39 → w ≡ 2 ^ 46 + n → (exponent_of w
 signed_tops n w h e = (omega arith, omega arith, omega arith)
 
 back_by : (z : ℤ) (w : ℕ) → nat_abs z < 2 ^ 39 → w ≡ placed 1 1 (one_of (negative z)) + placed 9 47 (nat_abs z) → whole_of w ≡ the z
-unfolding whole_of if◌then◌else◌ value_of
+unfolding whole_of if◌then◌otherwise◌ value_of
 back_by (pos n) w h e =
     let v : w ≡ n = omega arith in
     rw (eq-eqb (exponent_of w) 0 (tops n w h v).0, bit_is false w 1 (tops n w h v).1, (tops n w h v).2)
@@ -139,9 +139,9 @@ back_by (negsuc n) w h e =
     rw (eq-eqb (exponent_of w) 0 (signed_tops (suc n) w h v).0, bit_is true w 1 (signed_tops (suc n) w h v).1, (signed_tops (suc n) w h v).2)
 
 pub operand_back : (z : ℤ) (w : ℕ) → operand_of z ≡ the w → whole_of w ≡ the z
-unfolding operand_of if◌then◌else◌
+unfolding operand_of if◌then◌otherwise◌
 operand_back z w e = go (ltb (nat_abs z) (2 ^ 39)) refl e
   where
-    go : (b : Bool) → ltb (nat_abs z) (2 ^ 39) ≡ b → (if b then the (placed 1 1 (one_of (negative z)) + placed 9 47 (nat_abs z)) else given_back 20) ≡ the w → whole_of w ≡ the z
+    go : (b : Bool) → ltb (nat_abs z) (2 ^ 39) ≡ b → (if b then the (placed 1 1 (one_of (negative z)) + placed 9 47 (nat_abs z)) otherwise given_back 20) ≡ the w → whole_of w ≡ the z
     go true t f = back_by z w (ltb-true (nat_abs z) (2 ^ 39) t) (let q : placed 1 1 (one_of (negative z)) + placed 9 47 (nat_abs z) ≡ w = cc in sym q)
     go false t f = absurd (let q : ◌≡◌ {A = ℕ} 0 1 = cc in omega arith)

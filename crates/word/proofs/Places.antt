@@ -15,7 +15,7 @@ use lib.Seq.{drop-cons, get_or-set_same, drop-set-lt}
 use mir.Syntax.{w8, w64}
 use mir.Val.{Fits}
 use Rattle.word.specs.Digits.{digits, numeral, Below, byte_base, to_digits_of, if_word, from_digits_of}
-use Rattle.word.specs.Choices.{if◌then◌else◌}
+use Rattle.word.specs.Choices.{if◌then◌otherwise◌}
 
 pub digits_length : (base k n : ℕ) → length (digits base k n) ≡ k
 unfolding digits
@@ -115,7 +115,7 @@ gather_more base n i ds h e =
 
 pub gather_end : (base n i : ℕ) (ds : List ℕ) → i ≤ length ds → length ds ≤ i → n < 2 ^ 48 → numeral base ds ≡ n * base ^ (length ds - i) + numeral base (drop i ds)
     → some n ≡ if_word (numeral base ds)
-unfolding numeral if◌then◌else◌
+unfolding numeral if◌then◌otherwise◌
 gather_end base n i ds h l small e =
     let z : length ds - i ≡ 0 = omega arith in
     let f : numeral base ds ≡ n = e ∙ rw (z, drop_of_length-le ds l, pow-zero base) (omega arith) in
@@ -123,7 +123,7 @@ gather_end base n i ds h l small e =
 
 pub gather_past : (base n i : ℕ) (ds : List ℕ) → 0 < base → 2 ^ 48 ≤ n → numeral base ds ≡ n * base ^ (length ds - i) + numeral base (drop i ds)
     → none ≡ if_word (numeral base ds)
-unfolding if◌then◌else◌
+unfolding if◌then◌otherwise◌
 gather_past base n i ds h large e =
     let p : 1 ≤ base ^ (length ds - i) = one-le-pow (length ds - i) base h in
     let q : n * 1 ≤ n * base ^ (length ds - i) = mul-le-mul_left n p in
@@ -152,17 +152,17 @@ base_in base e = (leb-true 2 base (first (leb 2 base) (leb base 256) e), leb-tru
     second false b e = absurd (false≢true e)
 
 pub written_yes : (base n : ℕ) (old : List ℕ) {new : List ℕ} → byte_base base ≡ true → new ≡ digits base (length old) n → new ≡ to_digits_of base n old
-unfolding to_digits_of if◌then◌else◌
+unfolding to_digits_of if◌then◌otherwise◌
 written_yes base n old e d = rw e d
 
 pub written_no : (base n : ℕ) (old : List ℕ) → byte_base base ≡ false → old ≡ to_digits_of base n old
-unfolding to_digits_of if◌then◌else◌
+unfolding to_digits_of if◌then◌otherwise◌
 written_no base n old e = rw e
 
 pub read_yes : (base : ℕ) (ds : List ℕ) {r : Option ℕ} → byte_base base ≡ true → r ≡ if_word (numeral base ds) → r ≡ from_digits_of base ds
-unfolding from_digits_of if◌then◌else◌
+unfolding from_digits_of if◌then◌otherwise◌
 read_yes base ds e d = rw e d
 
 pub read_no : (base : ℕ) (ds : List ℕ) → byte_base base ≡ false → none ≡ from_digits_of base ds
-unfolding from_digits_of if◌then◌else◌
+unfolding from_digits_of if◌then◌otherwise◌
 read_no base ds e = rw e

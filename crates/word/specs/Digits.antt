@@ -1,7 +1,7 @@
 -- The digits of a number to any base, and back.
 use Rattle.std.specs.Prelude.{ℕ, zero, suc, ◌+◌, ◌*◌, ◌/◌, ◌%◌, ◌^◌, ◌<◌, Bool, ◌&&◌, List, [], ◌∷◌, leb, ltb, length, get_or}
 use Rattle.std.proofs.Math.Option.{Option, some, none}
-use Rattle.word.specs.Choices.{if◌then◌else◌}
+use Rattle.word.specs.Choices.{if◌then◌otherwise◌}
 use Rattle.word.specs.declared.digits.Reading.{Reading}
 use Rattle.word.specs.declared.digits.Reading.TheVariants.{Number, Refused}
 
@@ -25,15 +25,15 @@ byte_base base = leb 2 base && leb base 256
 
 -- Digits are written over the old ones, or all is left where the base is not 2 to 256.
 unfoldable pub to_digits_of : ℕ → ℕ → List ℕ → List ℕ
-to_digits_of base n old = if byte_base base then digits base (length old) n else old
+to_digits_of base n old = if byte_base base then digits base (length old) n otherwise old
 
 -- A word, where it is below 2^48, or none.
 abbrev pub if_word : ℕ → Option ℕ
-if_word n = if ltb n (2 ^ 48) then some n else none
+if_word n = if ltb n (2 ^ 48) then some n otherwise none
 
 -- Digits are read as a word, or none where the base is not 2 to 256.
 unfoldable pub from_digits_of : ℕ → List ℕ → Option ℕ
-from_digits_of base ds = if byte_base base then if_word (numeral base ds) else none
+from_digits_of base ds = if byte_base base then if_word (numeral base ds) otherwise none
 
 -- A word, or none: the paper has no number for digits that say no word.
 abbrev pub says_reading : Reading → Option ℕ

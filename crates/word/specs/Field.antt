@@ -1,6 +1,6 @@
 -- A word's bits by the paper's numbers, and what stands in a run of them.
 use Rattle.std.specs.Prelude.{ℕ, ◌+◌, ◌-◌, ◌*◌, ◌/◌, ◌%◌, ◌^◌, Bool, true, false, ◌&&◌, eqb, leb}
-use Rattle.word.specs.Choices.{if◌then◌else◌}
+use Rattle.word.specs.Choices.{if◌then◌otherwise◌}
 
 -- "A word has 48 bits; bit 0 is the highest, bit 47 is worth 1." What bit n is worth.
 abbrev pub worth : ℕ → ℕ
@@ -16,7 +16,7 @@ field w first last = w / worth last % span first last
 
 -- The same for any first and last: 0 where they name no bits of a word.
 abbrev pub bits_of : ℕ → ℕ → ℕ → ℕ
-bits_of w first last = if leb first last && leb last 47 then field w first last else 0
+bits_of w first last = if leb first last && leb last 47 then field w first last otherwise 0
 
 -- A number written as bits first to last of a word that is 0 elsewhere.
 abbrev pub placed : ℕ → ℕ → ℕ → ℕ

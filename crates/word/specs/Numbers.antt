@@ -2,7 +2,7 @@
 use Rattle.std.specs.Prelude.{ℕ, ◌+◌, ◌^◌, Bool, true, false, eqb, ltb, ℤ, pos, negsuc, neg_ℤ, nat_abs}
 use Rattle.word.specs.Field.{placed, one_of}
 use Rattle.word.specs.Layout.{sign_of, exponent_of, magnitude_of}
-use Rattle.word.specs.Choices.{if◌then◌else◌}
+use Rattle.word.specs.Choices.{if◌then◌otherwise◌}
 use Rattle.word.specs.declared.number.Whole.{Whole}
 use Rattle.word.specs.declared.number.Whole.TheVariants.{Number, NotWhole}
 use Rattle.word.specs.declared.number.Made.{Made}
@@ -24,7 +24,7 @@ value_of w = signed (sign_of w) (magnitude_of w)
 
 -- "bits 2-8 exponent (not 0 when any of them is on)"; "An exponent not 0: 20".
 unfoldable pub whole_of : ℕ → OrNumber ℤ
-whole_of w = if eqb (exponent_of w) 0 then the (value_of w) else given_back 20
+whole_of w = if eqb (exponent_of w) 0 then the (value_of w) otherwise given_back 20
 
 -- A number below 0.
 abbrev pub negative : ℤ → Bool
@@ -34,7 +34,7 @@ negative (negsuc n) = true
 -- "result flag off, zero gets sign off"; "result past 39 bits: 20".
 unfoldable pub operand_of : ℤ → OrNumber ℕ
 operand_of z =
-    if ltb (nat_abs z) (2 ^ 39) then the (placed 1 1 (one_of (negative z)) + placed 9 47 (nat_abs z)) else given_back 20
+    if ltb (nat_abs z) (2 ^ 39) then the (placed 1 1 (one_of (negative z)) + placed 9 47 (nat_abs z)) otherwise given_back 20
 
 -- "20: number not whole 39-bit"
 abbrev pub says_whole : Whole → OrNumber ℤ

@@ -1,6 +1,6 @@
 -- The runner's commands, by their words and how many arguments there are, the program's own name among them.
 use Rattle.std.specs.Prelude.{ℕ, Bool, true, false, ◌&&◌, ◌||◌, List, [], ◌∷◌, eqb, ltb}
-use Rattle.word.specs.Choices.{if◌then◌else◌}
+use Rattle.word.specs.Choices.{if◌then◌otherwise◌}
 use Rattle.wording.specs.Texts.{characters_of}
 use Rattle.wording.specs.declared.commands.Command.{Command}
 use Rattle.wording.specs.declared.commands.Command.TheVariants.{Run, Inspect, Help, Unknown, Miscounted}
@@ -14,11 +14,11 @@ same_of (x ∷ xs) (y ∷ ys) = eqb x y && same_of xs ys
 
 -- A command with `least` to `most` arguments.
 unfoldable pub counted_of : Command → ℕ → ℕ → ℕ → Command
-counted_of c count least most = if ltb count least || ltb most count then Miscounted else c
+counted_of c count least most = if ltb count least || ltb most count then Miscounted otherwise c
 
 -- run CORE SHEET [BUDGET [OUTPUT]], inspect CORE SHEET, help.
 unfoldable pub command_of : List ℕ → ℕ → Command
 command_of text count =
     if same_of text (characters_of "run") then counted_of Run count 4 6
-    else if same_of text (characters_of "inspect") then counted_of Inspect count 4 4
-    else if same_of text (characters_of "help") then Help else Unknown
+    otherwise if same_of text (characters_of "inspect") then counted_of Inspect count 4 4
+    otherwise if same_of text (characters_of "help") then Help otherwise Unknown

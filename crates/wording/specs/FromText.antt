@@ -1,6 +1,6 @@
 -- Numbers from text.
 use Rattle.std.specs.Prelude.{ℕ, ◌-◌, Bool, true, ◌&&◌, List, [], ◌∷◌, map, leb, ltb}
-use Rattle.word.specs.Choices.{if◌then◌else◌}
+use Rattle.word.specs.Choices.{if◌then◌otherwise◌}
 use Rattle.word.specs.Digits.{numeral}
 use Rattle.wording.specs.declared.numbers.FromText.{FromText}
 use Rattle.wording.specs.declared.numbers.FromText.TheVariants.{Number, Over, Wrong}
@@ -17,9 +17,9 @@ are_digits base [] = true
 are_digits base (c ∷ cs) = is_digit base c && are_digits base cs
 
 abbrev pub at_most : ℕ → ℕ → FromText
-at_most most n = if leb n most then Number n else Over
+at_most most n = if leb n most then Number n otherwise Over
 
 -- A number at most `most`, in one digit or more.
 unfoldable pub from_text_of : List ℕ → ℕ → ℕ → FromText
 from_text_of [] base most = Wrong
-from_text_of (c ∷ cs) base most = if are_digits base (c ∷ cs) then at_most most (numeral base (map digit_of (c ∷ cs))) else Wrong
+from_text_of (c ∷ cs) base most = if are_digits base (c ∷ cs) then at_most most (numeral base (map digit_of (c ∷ cs))) otherwise Wrong

@@ -1,6 +1,6 @@
 -- Where a sheet's refusal points to.
 use Rattle.std.specs.Prelude.{ℕ, ◌+◌, ◌/◌, ◌%◌, List, eqb, ltb}
-use Rattle.word.specs.Choices.{if◌then◌else◌}
+use Rattle.word.specs.Choices.{if◌then◌otherwise◌}
 use Rattle.sheet.specs.Sheets.{entry_at, code_of}
 use Rattle.wording.specs.declared.places.CodePlace.{CodePlace}
 
@@ -12,6 +12,6 @@ code_place_of sheet place = record { word = code_of sheet + place / 4; syllable 
 unfoldable pub record_kind_of : List ℕ → ℕ → ℕ
 record_kind_of sheet place =
     if eqb place 0 then 1
-    else if eqb place 1 then 2
-    else if eqb place 2 then 5
-    else if ltb place 1027 then (entry_at sheet place).kind else 0
+    otherwise if eqb place 1 then 2
+    otherwise if eqb place 2 then 5
+    otherwise if ltb place 1027 then (entry_at sheet place).kind otherwise 0

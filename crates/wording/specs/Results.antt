@@ -1,6 +1,6 @@
 -- What a run is told by.
 use Rattle.std.specs.Prelude.{ℕ, List, ◌||◌, eqb, get_or}
-use Rattle.word.specs.Choices.{if◌then◌else◌}
+use Rattle.word.specs.Choices.{if◌then◌otherwise◌}
 use Rattle.word.specs.Addresses.{cell_address}
 
 -- "COM: A full, store it at 64R+9"
@@ -9,8 +9,8 @@ communicated_of core r = get_or core (cell_address r 9) 0
 
 -- A run that communicated or spent its budget, or one that stopped otherwise.
 unfoldable pub stop_status : ℕ → ℕ
-stop_status stop = if eqb stop 0 || eqb stop 17 then 0 else 3
+stop_status stop = if eqb stop 0 || eqb stop 17 then 0 otherwise 3
 
 -- 1 for a refusal by number, else by the stop.
 unfoldable pub status_of : ℕ → ℕ → ℕ
-status_of number stop = if eqb number 0 then stop_status stop else 1
+status_of number stop = if eqb number 0 then stop_status stop otherwise 1

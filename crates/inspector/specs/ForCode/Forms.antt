@@ -16,7 +16,7 @@ use Rattle.inspector.specs.Targets.{is_empty, distance}
 use Rattle.machine.specs.Outcomes.{Res, on, halt}
 use Rattle.machine.specs.declared.outcome.Cause.TheVariants.{Address}
 use Rattle.syllable.specs.Numbers.{operator_numbers as numbers_of}
-use Rattle.word.specs.Choices.{if◌then◌else◌}
+use Rattle.word.specs.Choices.{if◌then◌otherwise◌}
 
 abbrev pub found_of : Find → Found
 found_of (At p) = at p
@@ -24,7 +24,7 @@ found_of Nowhere = nowhere
 
 -- What cell c is after n cells from a on were given a kind.
 abbrev pub painted : ℕ → ℕ → ℕ → ℕ → ℕ → ℕ
-painted a n kind old c = if leb a c && ltb c (a + n) then kind else old
+painted a n kind old c = if leb a c && ltb c (a + n) then kind otherwise old
 
 pub record Painted (a n kind : ℕ) (old new : List ℕ) : Type 0 where
   pub sized : length new ≡ 1024
@@ -37,7 +37,7 @@ pub record Cells (cells sheet : List ℕ) : Type 0 where
 
 -- An item as a number: a literal is itself, 1,024 a number, all else a place.
 unfoldable pub item_of : ℕ → Item
-item_of x = if ltb x 1024 then literal x else if eqb x 1024 then number else place
+item_of x = if ltb x 1024 then literal x otherwise if eqb x 1024 then number otherwise place
 
 -- The shape of the h first items of a list, the last of them its top.
 unfoldable pub shape_of : List ℕ → ℕ → Shape
@@ -82,7 +82,7 @@ pub record Became (room : ℕ) (items new : List ℕ) (r : Scanned) (left : Left
 
 -- The mark of a shape: 0 of an empty one, k + 1 of one with the literal k on top, 1,025 of the others. How far a branch on it goes.
 abbrev pub far_of : ℕ → ℕ
-far_of m = if ltb m 1025 then m - 1 else 0
+far_of m = if ltb m 1025 then m - 1 otherwise 0
 
 pub record Mark (s : Left) (m : ℕ) : Type 0 where
   pub empty : eqb m 0 ≡ is_empty s

@@ -10,7 +10,7 @@ use Rattle.machine.specs.States.{State, state_of}
 use Rattle.machine.specs.Calls.{index_of}
 use Rattle.machine.specs.Steps.{Ended, next}
 use Rattle.machine.specs.Runs.{Run, counted, run_from}
-use Rattle.word.specs.Choices.{if◌then◌else◌}
+use Rattle.word.specs.Choices.{if◌then◌otherwise◌}
 use Rattle.word.specs.Addresses.{sum_of}
 use Rattle.word.specs.Field.{with_field}
 use Rattle.word.specs.Layout.{sign_of, presence_of, size_of, address_of}
@@ -21,17 +21,17 @@ upon g t = record { a = t.a; afull = t.afull; b = t.b; bfull = t.bfull; s = g.s;
 
 -- A emptied without a push, then a word put in it.
 unfoldable pub raised : Hot → ℕ → Hot
-raised t d = record { a = d; b = if t.afull then t.a else t.b; afull = true; bfull = t.afull || t.bfull; c = t.c; l = t.l }
+raised t d = record { a = d; b = if t.afull then t.a otherwise t.b; afull = true; bfull = t.afull || t.bfull; c = t.c; l = t.l }
 
 -- B's word once A is empty, where no pop is due.
 unfoldable pub under_of : Hot → Res ℕ
-under_of t = if t.afull then on t.a else if t.bfull then on t.b else halt Index
+under_of t = if t.afull then on t.a otherwise if t.bfull then on t.b otherwise halt Index
 
 -- The descriptor of the element that a present data descriptor and an index at hand name.
 unfoldable pub element_of : Hot → ℕ → Res ℕ
 element_of t d =
     if sign_of d || not (presence_of d) then halt Index
-    else
+    otherwise
     (do
       x ← under_of t
       i ← index_of x (size_of d)

@@ -1,4 +1,4 @@
-use Rattle.word.specs.Choices.{if◌then◌else◌}
+use Rattle.word.specs.Choices.{if◌then◌otherwise◌}
 use Rattle.inspector.proofs.Syllables.{twenty_nine}
 use Rattle.inspector.specs.Scan.{number, place}
 use Rattle.inspector.specs.ForCode.Forms.{item_of, effected}
@@ -41,11 +41,11 @@ pub returns-in-37 : goal.returns-in-37
 returns-in-37 c = λ sheet xs k s. literal_left xs _ c.requires ∙ just sheet _ xs _ 37 c.in-37.is refl
 
 pub returns-in-38 : goal.returns-in-38
-unfolding item_of if◌then◌else◌
+unfolding item_of if◌then◌otherwise◌
 returns-in-38 c = λ sheet xs k s. c.called_over.ensures _ xs s ∙ call_left sheet _ xs number k.called ∙ just sheet _ xs _ 38 c.in-38.is refl
 
 pub returns-in-39 : goal.returns-in-39
-unfolding item_of if◌then◌else◌
+unfolding item_of if◌then◌otherwise◌
 returns-in-39 c = λ sheet xs k s. c.called_over-in-39.ensures _ xs s ∙ call_left sheet _ xs place k.called ∙ just sheet _ xs _ 39 c.in-39.is refl
 
 pub returns-in-1-to-14 : goal.returns-in-1-to-14
