@@ -3,7 +3,7 @@ ghost use Rattle.std.specs.Prelude.{◌≤◌, length};
 
 use crate::looks::Look;
 use crate::{looks, say};
-use std::env::{Env, FillError};
+use std::env::Env;
 use std::fs::{File, Permissions};
 use std::io::{ErrorKind, Read, Write};
 use std::os::unix::fs::{OpenOptionsExt, PermissionsExt, fchown};
@@ -16,7 +16,9 @@ const PATH_MAX: usize = 4096;
 // How many names beside a file are tried for a new one: six octal digits tell them apart.
 const TURNS: u64 = 262144;
 
-// What the system says of a name that is too long.
+// The system's numbers of what failed: a file that is there already, a name that is too long.
+const EEXIST: i32 = 17;
+
 const ENAMETOOLONG: i32 = 36;
 
 // How many bytes were read, or that reading failed; and what the file is.
@@ -182,7 +184,7 @@ fn set(room: &mut [u8], at: usize, b: u8) {
 }
 
 // Puts a number's six octal digits into room.
-fn numbers(room: &mut [u8], at: usize, turn: u64)
+fn digits(room: &mut [u8], at: usize, turn: u64)
     requires { at ≤ 4096 }
 {
     let mut six = [0u8; 6];
@@ -214,7 +216,7 @@ fn beside(name: &[u8], turn: u64, room: &mut [u8]) -> usize
 {
     let i = copied(name, room);
     set(room, i, b'.');
-    numbers(room, i + 1, turn);
+    digits(room, i + 1, turn);
     within(i + 7, &room[..])
 }
 
@@ -252,7 +254,7 @@ fn put_beside(
             Err(why) => return Err(why),
         }
     }
-    Err(io::Error::from(ErrorKind::AlreadyExists))
+    Err(io::Error::from_raw_os_error(EEXIST))
 }
 
 fn put_by(
