@@ -8,32 +8,36 @@ mod report;
 mod say;
 mod segments;
 
+use std::env::Env;
+use std::fs::File;
+use std::io;
+use std::rt::Files;
 use wording::Command;
 
-fn main() {
+fn main(rt: HostRuntime) -> io::Result<()> {
     let mut word = [0u8; 16];
-    let n = os::arg(1, &mut word);
-    let status = obey(wording::command_of(&word[..n], os::arg_count()));
-    say::status(status);
+    let n = options::short(&rt, 1, &mut word);
+    let status = obey(&rt, wording::command_of(&word[..n], options::count(&rt)))?;
+    println!(rt; "status {status}")
 }
 
-fn obey(c: Command) -> u64 {
+fn obey<R: Files<File = File> + Env + Print + Eprint>(rt: &R, c: Command) -> io::Result<u64> {
     match c {
-        Command::Run => segments::run(),
-        Command::Inspect => segments::inspect(),
+        Command::Run => segments::run(rt),
+        Command::Inspect => segments::inspect(rt),
         Command::Help => {
-            say::usage(libc::STDOUT_FILENO);
-            0
+            rt.print(say::USAGE)?;
+            Ok(0)
         }
         Command::Unknown => {
-            say::error(b"runner: the first argument is run, inspect or help\n");
-            say::usage(libc::STDERR_FILENO);
-            2
+            eprintln!(rt; "runner: the first argument is run, inspect or help")?;
+            rt.eprint(say::USAGE)?;
+            Ok(2)
         }
         Command::Miscounted => {
-            say::error(b"runner: too few or too many arguments\n");
-            say::usage(libc::STDERR_FILENO);
-            2
+            eprintln!(rt; "runner: too few or too many arguments")?;
+            rt.eprint(say::USAGE)?;
+            Ok(2)
         }
     }
 }

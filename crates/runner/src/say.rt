@@ -1,38 +1,40 @@
-// What is written: text, numbers, why a file failed, how to call the program.
-ghost use Rattle.std.specs.Prelude.{◌≡◌, length};
+// What is written: addresses and words in octal, why a file failed, how to call the program.
+ghost use Rattle.std.specs.Prelude.{◌≡◌, ◌≤◌, length};
 
-use libc::{STDERR_FILENO, STDOUT_FILENO};
+use std::io;
+use std::io::Write;
 
-pub fn text(bytes: &[u8]) {
-    io::write_all(STDOUT_FILENO, bytes);
+pub const USAGE: &str = "runner inspect CORE SHEET
+  says whether the segment passes, or the number that refuses it and where
+runner run CORE SHEET [BUDGET [OUTPUT]]
+  inspects the segment, runs it where it passed for at most BUDGET syllables (1000000),
+  and puts the core in place of OUTPUT (CORE) by a rename
+The last line of the output is the status:
+  0  passes, or ran to a communicate or to the end of its budget
+  1  refused by a number: nothing is written
+  2  could not be done, for its arguments or its files: nothing is written
+  3  ran, and stopped with 15, 20 or 21
+";
+
+// A file's name and why it failed, in the system's words.
+pub fn fail(rt: &impl Eprint, name: &str, why: io::Error) -> io::Result<()> {
+    let mut room = [0u8; 256];
+    let mut rest: &mut [u8] = &mut room;
+    write!(rest, "{why}")?;
+    let reason = str::from_utf8(&room[..words_end(&room)]).unwrap_or("");
+    eprintln!(rt; "runner: {name}: {reason}")
 }
 
-pub fn error(bytes: &[u8]) {
-    io::write_all(STDERR_FILENO, bytes);
-}
-
-pub fn decimal(n: u64) {
-    io::print_decimal(STDOUT_FILENO, n);
-}
-
-// A file's name and the reason that errno has.
-pub fn fail(name: &[u8]) {
-    error(b"runner: ");
-    os::fail(name);
-}
-
-// A file's name and a reason of our own, which a line feed ends.
-pub fn complain(name: &[u8], reason: &[u8]) {
-    error(b"runner: ");
-    error(name);
-    error(reason);
-}
-
-// The last line, by which a caller in a shell knows how it ended.
-pub fn status(n: u64) {
-    text(b"status ");
-    decimal(n);
-    text(b"\n");
+// Where the system's words end, in text with zeros after it: std has the error's number behind them.
+fn words_end(text: &[u8]) -> usize
+    ensures { result ≤ length text.now }
+{
+    for (i, byte) in text.iter().enumerate() {
+        if *byte == 0 || text[i..].starts_with(b" (os error ") {
+            return i;
+        }
+    }
+    text.len()
 }
 
 fn glyph(digit: u8) -> u8 {
@@ -43,76 +45,34 @@ fn glyph(digit: u8) -> u8 {
 fn spell(digits: &mut [u8])
     ensures { length digits.new ≡ length digits.old }
 {
-    let mut i = 0;
-    while i < digits.len() {
-        digits[i] = glyph(digits[i]);
-        i += 1;
+    for digit in digits.iter_mut() {
+        *digit = glyph(*digit);
     }
 }
 
-fn octal(n: u64, room: &mut [u8]) {
+// Fills room with a number's last octal digits.
+pub fn spell_number(n: u64, room: &mut [u8]) {
     word::to_digits(n, 8, room);
     spell(room);
-    text(room);
+}
+
+fn octal(rt: &impl Print, n: u64, room: &mut [u8]) -> io::Result<()> {
+    spell_number(n, room);
+    rt.write_all(room)
 }
 
 // A word, in sixteen octal digits.
-pub fn whole_word(w: u64) {
+pub fn whole_word(rt: &impl Print, w: u64) -> io::Result<()> {
     let mut room = [0u8; 16];
-    octal(w, &mut room);
+    octal(rt, w, &mut room)
 }
 
 // An address, in four octal digits, or in five from 10000 on.
-pub fn address(a: u64) {
+pub fn address(rt: &impl Print, a: u64) -> io::Result<()> {
     if a < 4096 {
         let mut four = [0u8; 4];
-        octal(a, &mut four);
-        return;
+        return octal(rt, a, &mut four);
     }
     let mut five = [0u8; 5];
-    octal(a, &mut five);
-}
-
-pub fn usage(fd: i32) {
-    usage_inspect(fd);
-    usage_run(fd);
-    usage_good(fd);
-    usage_bad(fd);
-}
-
-fn usage_inspect(fd: i32) {
-    io::write_all(fd, b"runner inspect CORE SHEET\n");
-    io::write_all(
-        fd,
-        b"  says whether the segment passes, or the number that refuses it and where\n",
-    );
-}
-
-fn usage_run(fd: i32) {
-    io::write_all(fd, b"runner run CORE SHEET [BUDGET [OUTPUT]]\n");
-    io::write_all(
-        fd,
-        b"  inspects the segment, runs it where it passed for at most BUDGET syllables (1000000),\n",
-    );
-    io::write_all(
-        fd,
-        b"  and puts the core in place of OUTPUT (CORE) by a rename\n",
-    );
-}
-
-fn usage_good(fd: i32) {
-    io::write_all(fd, b"The last line of the output is the status:\n");
-    io::write_all(
-        fd,
-        b"  0  passes, or ran to a communicate or to the end of its budget\n",
-    );
-}
-
-fn usage_bad(fd: i32) {
-    io::write_all(fd, b"  1  refused by a number: nothing is written\n");
-    io::write_all(
-        fd,
-        b"  2  could not be done, for its arguments or its files: nothing is written\n",
-    );
-    io::write_all(fd, b"  3  ran, and stopped with 15, 20 or 21\n");
+    octal(rt, a, &mut five)
 }
