@@ -5,9 +5,11 @@ mod moves;
 mod say;
 mod stretches;
 
-fn main() {
-    moves::program();
-    moves::past_whole();
-    moves::refused();
-    stretches::cells();
+use std::io;
+
+fn main(rt: HostRuntime) -> io::Result<()> {
+    moves::program(&rt)?;
+    moves::past_whole(&rt)?;
+    moves::refused(&rt)?;
+    stretches::cells(&rt)
 }

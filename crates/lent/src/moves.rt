@@ -4,6 +4,7 @@ ghost use Rattle.machine.specs.Steps.{step_of, answered};
 
 use crate::say;
 use machine::{Answer, Registers};
+use std::io;
 
 // The only function with a set of its own: it lends the set to `step_panel`, and hands it on with the number given back.
 fn moved(core: &mut [u64], g: Registers) -> Answer
@@ -32,51 +33,56 @@ fn start() -> Registers {
 }
 
 // A or B: its word, or a dash if it is empty.
-fn register(full: bool, w: u64) {
+fn register(rt: &impl Print, full: bool, w: u64) -> io::Result<()> {
     if full {
-        say::whole_word(w);
+        say::whole_word(rt, w)
     } else {
-        say::text(b" -");
+        say::text(rt, b" -")
     }
 }
 
 // The number given back, A, B, S, C, L.
-fn line(a: Answer) {
+fn line(rt: &impl Print, a: Answer) -> io::Result<()> {
     let g = a.regs;
-    say::decimal(a.number);
-    register(g.afull, g.a);
-    register(g.bfull, g.b);
-    say::decimal(g.s as u64);
-    say::decimal(g.c as u64);
-    say::decimal(g.l as u64);
-    say::text(b"\n");
+    say::decimal(rt, a.number)?;
+    register(rt, g.afull, g.a)?;
+    register(rt, g.bfull, g.b)?;
+    say::decimal(rt, g.s as u64)?;
+    say::decimal(rt, g.c as u64)?;
+    say::decimal(rt, g.l as u64)?;
+    say::text(rt, b"\n")
 }
 
 // A line of one step; the set goes on to the next.
-fn shown(name: &[u8], core: &mut [u64; 128], g: Registers) -> Registers {
+fn shown(
+    rt: &impl Print,
+    name: &[u8],
+    core: &mut [u64; 128],
+    g: Registers,
+) -> io::Result<Registers> {
     let a = moved(core, g);
-    say::text(name);
-    line(a);
-    a.regs
+    say::text(rt, name)?;
+    line(rt, a)?;
+    Ok(a.regs)
 }
 
 // LITC 5, LITC 7, SUB, COM, which stores in cell 9.
-pub fn program() {
+pub fn program(rt: &impl Print) -> io::Result<()> {
     let mut core = [0u64; 128];
     core[0] = 0o0024_0034_0301_1011;
-    say::text(b"The panel: number, A, B, S, C, L\n");
+    say::text(rt, b"The panel: number, A, B, S, C, L\n")?;
     let mut g = start();
-    g = shown(b"LITC 5:", &mut core, g);
-    g = shown(b"LITC 7:", &mut core, g);
-    g = shown(b"SUB:", &mut core, g);
-    shown(b"COM:", &mut core, g);
-    say::text(b"Cell 9:");
-    say::whole_word(core[73]);
-    say::text(b"\n");
+    g = shown(rt, b"LITC 5:", &mut core, g)?;
+    g = shown(rt, b"LITC 7:", &mut core, g)?;
+    g = shown(rt, b"SUB:", &mut core, g)?;
+    shown(rt, b"COM:", &mut core, g)?;
+    say::text(rt, b"Cell 9:")?;
+    say::whole_word(rt, core[73])?;
+    say::text(rt, b"\n")
 }
 
 // 2^39-1 plus 1 stops, and the registers stay.
-pub fn past_whole() {
+pub fn past_whole(rt: &impl Print) -> io::Result<()> {
     let mut core = [0u64; 128];
     core[0] = 0o0101_0000_0000_0000;
     let mut g = start();
@@ -84,13 +90,15 @@ pub fn past_whole() {
     g.bfull = true;
     g.a = 1;
     g.afull = true;
-    shown(b"2^39-1 ADD 1:", &mut core, g);
+    shown(rt, b"2^39-1 ADD 1:", &mut core, g)?;
+    Ok(())
 }
 
 // L is out of range, and the registers stay.
-pub fn refused() {
+pub fn refused(rt: &impl Print) -> io::Result<()> {
     let mut core = [0u64; 128];
     let mut g = start();
     g.l = 4;
-    shown(b"L=4:", &mut core, g);
+    shown(rt, b"L=4:", &mut core, g)?;
+    Ok(())
 }

@@ -1,20 +1,20 @@
 // What is written: text, numbers, words.
-use libc::STDOUT_FILENO;
+use std::io;
 
-pub fn text(bytes: &[u8]) {
-    io::write_all(STDOUT_FILENO, bytes);
+pub fn text(rt: &impl Print, bytes: &[u8]) -> io::Result<()> {
+    rt.write_all(bytes)
 }
 
 // A blank and a number in decimal.
-pub fn decimal(n: u64) {
-    text(b" ");
-    io::print_decimal(STDOUT_FILENO, n);
+pub fn decimal(rt: &impl Print, n: u64) -> io::Result<()> {
+    print!(rt; " {n}")
 }
 
 // A blank and a word in sixteen octal digits, of three bits each.
-pub fn whole_word(w: u64) {
-    text(b" ");
+pub fn whole_word(rt: &impl Print, w: u64) -> io::Result<()> {
+    text(rt, b" ")?;
     for i in 0u8..16 {
-        io::print_decimal(STDOUT_FILENO, word::bits(w, 3 * i, 3 * i + 2));
+        rt.print(word::bits(w, 3 * i, 3 * i + 2))?;
     }
+    Ok(())
 }

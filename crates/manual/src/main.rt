@@ -6,12 +6,14 @@ mod say;
 mod syllables;
 mod words;
 
-fn main() {
-    syllables::figure_5_4();
-    syllables::figures_5_5_and_5_6();
-    words::octades();
-    words::bound();
-    words::mark_stack();
-    words::program();
-    words::return_control();
+use std::io;
+
+fn main(rt: HostRuntime) -> io::Result<()> {
+    syllables::figure_5_4(&rt)?;
+    syllables::figures_5_5_and_5_6(&rt)?;
+    words::octades(&rt)?;
+    words::bound(&rt)?;
+    words::mark_stack(&rt)?;
+    words::program(&rt)?;
+    words::return_control(&rt)
 }

@@ -1,10 +1,10 @@
 // What the examples write: text, octal numbers, flags.
 ghost use Rattle.std.specs.Prelude.{◌≡◌, length};
 
-use libc::STDOUT_FILENO;
+use std::io;
 
-pub fn text(bytes: &[u8]) {
-    io::write_all(STDOUT_FILENO, bytes);
+pub fn text(rt: &impl Print, bytes: &[u8]) -> io::Result<()> {
+    rt.write_all(bytes)
 }
 
 fn glyph(digit: u8) -> u8 {
@@ -22,44 +22,44 @@ fn spell(digits: &mut [u8])
     }
 }
 
-fn octal(n: u64, room: &mut [u8]) {
+fn octal(rt: &impl Print, n: u64, room: &mut [u8]) -> io::Result<()> {
     word::to_digits(n, 8, room);
     spell(room);
-    text(room);
+    text(rt, room)
 }
 
 // A word, in sixteen digits.
-pub fn whole_word(w: u64) {
+pub fn whole_word(rt: &impl Print, w: u64) -> io::Result<()> {
     let mut room = [0u8; 16];
-    octal(w, &mut room);
+    octal(rt, w, &mut room)
 }
 
 // A syllable or its number k, in four digits.
-pub fn syllable(y: u16) {
+pub fn syllable(rt: &impl Print, y: u16) -> io::Result<()> {
     let mut room = [0u8; 4];
-    octal(y as u64, &mut room);
+    octal(rt, y as u64, &mut room)
 }
 
 // An address, in five digits.
-pub fn address(a: u16) {
+pub fn address(rt: &impl Print, a: u16) -> io::Result<()> {
     let mut room = [0u8; 5];
-    octal(a as u64, &mut room);
+    octal(rt, a as u64, &mut room)
 }
 
 // One digit.
-pub fn digit(d: u8) {
+pub fn digit(rt: &impl Print, d: u8) -> io::Result<()> {
     let mut room = [0u8; 1];
-    octal(d as u64, &mut room);
+    octal(rt, d as u64, &mut room)
 }
 
-pub fn flag(on: bool) {
+pub fn flag(rt: &impl Print, on: bool) -> io::Result<()> {
     if on {
-        text(b"on");
+        text(rt, b"on")
     } else {
-        text(b"off");
+        text(rt, b"off")
     }
 }
 
-pub fn decimal(n: u64) {
-    io::print_decimal(STDOUT_FILENO, n);
+pub fn decimal(rt: &impl Print, n: u64) -> io::Result<()> {
+    rt.print(n)
 }

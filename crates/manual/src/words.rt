@@ -1,29 +1,30 @@
 // Words: the octades of paragraph 2-14, the bound of an operand, and the formats of paragraphs 5-27, 5-29 and 5-31.
 use crate::say;
+use std::io;
 use word::{Kind, Made, Reading, Whole};
 
 // Whether an operand is read back as the number that it was made of.
-fn back(w: u64, v: i64) {
+fn back(rt: &impl Print, w: u64, v: i64) -> io::Result<()> {
     match word::whole_of(w) {
         Whole::Number(u) => {
             if u == v {
-                say::text(b", read back\n");
+                say::text(rt, b", read back\n")
             } else {
-                say::text(b", read back as another\n");
+                say::text(rt, b", read back as another\n")
             }
         }
-        Whole::NotWhole => say::text(b", not whole\n"),
+        Whole::NotWhole => say::text(rt, b", not whole\n"),
     }
 }
 
-fn operand(v: i64) {
+fn operand(rt: &impl Print, v: i64) -> io::Result<()> {
     match word::operand_of(v) {
         Made::Word(w) => {
-            say::text(b" is the operand ");
-            say::whole_word(w);
-            back(w, v);
+            say::text(rt, b" is the operand ")?;
+            say::whole_word(rt, w)?;
+            back(rt, w, v)
         }
-        Made::PastWhole => say::text(b" is past 39 bits\n"),
+        Made::PastWhole => say::text(rt, b" is past 39 bits\n"),
     }
 }
 
@@ -33,103 +34,103 @@ fn number(n: u64) -> i64 {
 }
 
 // Of fourteen octal digits the one at this place is 1, the others are 0.
-fn octade(at: usize) {
+fn octade(rt: &impl Print, at: usize) -> io::Result<()> {
     let mut digits = [0u8; 14];
     digits[at % 14] = 1;
     match word::from_digits(&digits, 8) {
         Reading::Number(n) => {
-            say::decimal(n);
-            operand(number(n));
+            say::decimal(rt, n)?;
+            operand(rt, number(n))
         }
-        Reading::Refused => say::text(b"no word\n"),
+        Reading::Refused => say::text(rt, b"no word\n"),
     }
 }
 
-pub fn octades() {
-    say::text(b"Octades\n");
-    octade(13);
-    octade(12);
-    octade(11);
-    octade(10);
-    octade(9);
-    octade(8);
-    octade(7);
-    octade(6);
-    octade(5);
-    octade(4);
-    octade(3);
-    octade(2);
-    octade(1);
-    octade(0);
+pub fn octades(rt: &impl Print) -> io::Result<()> {
+    say::text(rt, b"Octades\n")?;
+    octade(rt, 13)?;
+    octade(rt, 12)?;
+    octade(rt, 11)?;
+    octade(rt, 10)?;
+    octade(rt, 9)?;
+    octade(rt, 8)?;
+    octade(rt, 7)?;
+    octade(rt, 6)?;
+    octade(rt, 5)?;
+    octade(rt, 4)?;
+    octade(rt, 3)?;
+    octade(rt, 2)?;
+    octade(rt, 1)?;
+    octade(rt, 0)
 }
 
-pub fn bound() {
-    say::text(b"Operand bound\n2^39-1");
-    operand(549755813887);
-    say::text(b"2^39");
-    operand(549755813888);
-    say::text(b"-(2^39-1)");
-    operand(-549755813887);
-    say::text(b"-2^39");
-    operand(-549755813888);
+pub fn bound(rt: &impl Print) -> io::Result<()> {
+    say::text(rt, b"Operand bound\n2^39-1")?;
+    operand(rt, 549755813887)?;
+    say::text(rt, b"2^39")?;
+    operand(rt, 549755813888)?;
+    say::text(rt, b"-(2^39-1)")?;
+    operand(rt, -549755813887)?;
+    say::text(rt, b"-2^39")?;
+    operand(rt, -549755813888)
 }
 
-fn kind(w: u64) {
+fn kind(rt: &impl Print, w: u64) -> io::Result<()> {
     match word::kind_of(w) {
-        Kind::Operand => say::text(b", an operand\n"),
-        Kind::Data => say::text(b", a data descriptor\n"),
-        Kind::Program => say::text(b", a program descriptor\n"),
-        Kind::Control => say::text(b", a control word\n"),
+        Kind::Operand => say::text(rt, b", an operand\n"),
+        Kind::Data => say::text(rt, b", a data descriptor\n"),
+        Kind::Program => say::text(rt, b", a program descriptor\n"),
+        Kind::Control => say::text(rt, b", a control word\n"),
     }
 }
 
 // A word's name, its digits and its kind.
-fn heading(name: &[u8], w: u64) {
-    say::text(name);
-    say::whole_word(w);
-    kind(w);
+fn heading(rt: &impl Print, name: &[u8], w: u64) -> io::Result<()> {
+    say::text(rt, name)?;
+    say::whole_word(rt, w)?;
+    kind(rt, w)
 }
 
-pub fn mark_stack() {
+pub fn mark_stack(rt: &impl Print) -> io::Result<()> {
     let w = word::mscw(0o525, true, false, 0o12345);
-    heading(b"MSCW ", w);
-    say::text(b"R ");
-    say::syllable(word::mscw_r(w));
-    say::text(b", MSFF ");
-    say::flag(word::mscw_msff(w));
-    say::text(b", SALF ");
-    say::flag(word::mscw_salf(w));
-    say::text(b", F ");
-    say::address(word::f_field(w));
-    say::text(b"\n");
+    heading(rt, b"MSCW ", w)?;
+    say::text(rt, b"R ")?;
+    say::syllable(rt, word::mscw_r(w))?;
+    say::text(rt, b", MSFF ")?;
+    say::flag(rt, word::mscw_msff(w))?;
+    say::text(rt, b", SALF ")?;
+    say::flag(rt, word::mscw_salf(w))?;
+    say::text(rt, b", F ")?;
+    say::address(rt, word::f_field(w))?;
+    say::text(rt, b"\n")
 }
 
-pub fn program() {
+pub fn program(rt: &impl Print) -> io::Result<()> {
     let w = word::program(true, false, true, 0o23456, 0o34567);
-    heading(b"Program descriptor ", w);
-    say::text(b"presence ");
-    say::flag(word::presence(w));
-    say::text(b", mode ");
-    say::flag(word::mode(w));
-    say::text(b", argument ");
-    say::flag(word::argument(w));
-    say::text(b", F ");
-    say::address(word::f_field(w));
-    say::text(b", address ");
-    say::address(word::address(w));
-    say::text(b"\n");
+    heading(rt, b"Program descriptor ", w)?;
+    say::text(rt, b"presence ")?;
+    say::flag(rt, word::presence(w))?;
+    say::text(rt, b", mode ")?;
+    say::flag(rt, word::mode(w))?;
+    say::text(rt, b", argument ")?;
+    say::flag(rt, word::argument(w))?;
+    say::text(rt, b", F ")?;
+    say::address(rt, word::f_field(w))?;
+    say::text(rt, b", address ")?;
+    say::address(rt, word::address(w))?;
+    say::text(rt, b"\n")
 }
 
-pub fn return_control() {
+pub fn return_control(rt: &impl Print) -> io::Result<()> {
     let w = word::rcw(true, 2, 0o45671, 0o56712);
-    heading(b"RCW ", w);
-    say::text(b"descriptor call ");
-    say::flag(word::rcw_call(w));
-    say::text(b", L ");
-    say::digit(word::rcw_l(w));
-    say::text(b", F ");
-    say::address(word::f_field(w));
-    say::text(b", C ");
-    say::address(word::rcw_c(w));
-    say::text(b"\n");
+    heading(rt, b"RCW ", w)?;
+    say::text(rt, b"descriptor call ")?;
+    say::flag(rt, word::rcw_call(w))?;
+    say::text(rt, b", L ")?;
+    say::digit(rt, word::rcw_l(w))?;
+    say::text(rt, b", F ")?;
+    say::address(rt, word::f_field(w))?;
+    say::text(rt, b", C ")?;
+    say::address(rt, word::rcw_c(w))?;
+    say::text(rt, b"\n")
 }

@@ -1,10 +1,10 @@
 // Runs a loop for a million syllables, and writes the line of the trial program.
 #![tactic(auto)]
 
-use libc::STDOUT_FILENO;
+use std::io;
 use trial::Outcome;
 
-fn main() {
+fn main(rt: HostRuntime) -> io::Result<()> {
     let mut core = [0u64; 4096];
     // OPDC 9, OPDC 10, ADD, LITC 9
     core[0] = 0o0046_0052_0101_0044;
@@ -17,11 +17,11 @@ fn main() {
     // Cell 10 counts down from 100,000, and cell 9 is the sum of the counts.
     core[74] = 100000;
     let sum = trial::run_from_start(&mut core, 1000000);
-    say(Outcome::Ended(sum));
+    say(&rt, Outcome::Ended(sum))
 }
 
-fn say(t: Outcome) {
+fn say(rt: &impl Print, t: Outcome) -> io::Result<()> {
     let mut room = [0u8; 128];
     let k = trial::line(t, &mut room);
-    io::write_all(STDOUT_FILENO, &room[..k]);
+    rt.write_all(&room[..k])
 }
