@@ -5,10 +5,8 @@ use std::io;
 // How many words, and each.
 fn words(rt: &impl Print, part: &[u64]) -> io::Result<()> {
     say::decimal(rt, part.len() as u64)?;
-    let mut i = 0;
-    while i < part.len() {
-        say::decimal(rt, part[i])?;
-        i += 1;
+    for w in part {
+        say::decimal(rt, *w)?;
     }
     Ok(())
 }
