@@ -1,7 +1,7 @@
 /*
  * The word-mode B 5500 for a host program in C, over numbers and bytes: load, step, run, the words
  * of an array cell, the inspection of a segment, and its posting.
- * Link with target/staticlib/libcabinet.a, which `rt staticlib cabinet` writes (x86-64).
+ * Link with target/staticlib/libcabinet.a, which `.ci/build cabinet` writes (x86-64).
  *
  * Bytes. A core is 1 to 32,768 words of six bytes, the highest byte first: the form of a core
  * file. A register set is a row of eleven such words, 66 bytes, in the order of enum
