@@ -5,7 +5,7 @@ ghost use Rattle.std.specs.Prelude.{◌≡◌};
 ghost use Rattle.handout.specs.HandOut.{hand_out_number, stretch_start, stretch_count, HandedOut};
 
 // A stretch of the core by its first word and how many words it has.
-#[derive(Drop)]
+#[derive(Clone, Copy)]
 pub struct Stretch {
     pub start: usize,
     pub count: usize,

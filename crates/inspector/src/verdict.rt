@@ -1,5 +1,5 @@
 // The inspector's answer, and what a search for a broken rule finds.
-#[derive(Drop)]
+#[derive(Clone, Copy)]
 pub struct Verdict {
     pub number: u64,
     pub place: u64,

@@ -9,7 +9,7 @@ ghost use Rattle.post.specs.Posting.{turned_away, posted_of, Posts};
 use machine::Registers;
 
 // The number and place of the inspector, or 5; the stop, the syllables completed and the registers of the run.
-#[derive(Drop)]
+#[derive(Clone, Copy)]
 pub struct Posted {
     pub number: u64,
     pub place: u64,

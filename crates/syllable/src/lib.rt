@@ -85,7 +85,7 @@ pub enum Syllable {
 }
 
 // Where a syllable stands: in the word at c, the l-th.
-#[derive(Drop)]
+#[derive(Clone, Copy)]
 pub struct Position {
     pub c: u16,
     pub l: u8,

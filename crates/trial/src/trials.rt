@@ -6,7 +6,7 @@ ghost use Rattle.trial.specs.ForCode.Loads.{Loaded};
 use machine::Registers;
 
 // What a run leaves: the stop, the syllables completed, C, L, S and cell 9.
-#[derive(Drop)]
+#[derive(Clone, Copy)]
 pub struct Sum {
     pub stop: u64,
     pub completed: u64,
@@ -17,7 +17,7 @@ pub struct Sum {
 }
 
 // A file is refused, with its number, or runs to an end.
-#[derive(Drop)]
+#[derive(Clone, Copy)]
 pub enum Outcome {
     Refused(u64),
     Ended(Sum),

@@ -3,7 +3,7 @@ ghost use Rattle.std.specs.Prelude.{◌≡◌};
 ghost use Rattle.wording.specs.Commands.{same_of, counted_of, command_of};
 
 // Unknown is no word of ours; Miscounted is one of ours with too few or too many arguments.
-#[derive(Drop)]
+#[derive(Clone, Copy)]
 pub enum Command {
     Run,
     Inspect,

@@ -6,7 +6,7 @@ ghost use Rattle.wording.specs.Signs.{says_signed, signed_of};
 ghost use Rattle.wording.specs.ForCode.Caps.{capped_of};
 
 // What a text was read as.
-#[derive(Drop)]
+#[derive(Clone, Copy)]
 pub enum FromText {
     Number(u64),
     Over,
@@ -14,7 +14,7 @@ pub enum FromText {
 }
 
 // A whole number by its sign and magnitude; zero is Plus.
-#[derive(Drop)]
+#[derive(Clone, Copy)]
 pub enum Signed {
     Plus(u64),
     Minus(u64),

@@ -3,7 +3,7 @@ ghost use Rattle.std.specs.Prelude.{◌≡◌, get_or, ◌<◌};
 ghost use Rattle.wording.specs.Places.{code_place_of, record_kind_of};
 
 // A syllable of the code: the address of its word, and its place there, 0 being leftmost.
-#[derive(Drop)]
+#[derive(Clone, Copy)]
 pub struct CodePlace {
     pub word: u64,
     pub syllable: u64,
