@@ -1,4 +1,4 @@
-// The cabinet's plugs: what a host program in C may call, over numbers and six-byte words. include/fifty_five.h tells it to C.
+// The cabinet: all of it over numbers and six-byte words, as a host program in C calls it through `cabinet_c`.
 #![tactic(auto)]
 
 mod arrays;

@@ -9,8 +9,8 @@ use Rattle.word.specs.Numbers.{OrNumber, the, given_back}
 use Rattle.wording.specs.Signs.{says_signed}
 use Rattle.wording.proofs.commands.command_of.Reads as command_of
 use Rattle.wording.proofs.names.name_of.Reads as name_of
-use Rattle.wording.proofs.numbers.number_of.Reads as number_of_lem
-use Rattle.wording.proofs.numbers.signed_of.Reads as Signed-of
+use Rattle.wording.proofs.numbers.number_of.Reads as number_of
+use Rattle.wording.proofs.numbers.signed_of.Reads as signed_of
 use Rattle.wording.proofs.places.kind_at.Reads as kind_at
 use Rattle.wording.proofs.places.place_of.Reads as place_of
 use Rattle.wording.proofs.results.communicated.Reads as communicated
@@ -22,7 +22,7 @@ command_of_sole κs a r r' e e' p q = sole p q
 pub name_of_sole : (κs : _) (a : _) (r r' : _) (e e' : _) → name_of.Learnt κs a r e → name_of.Learnt κs a r' e' → r ≡ r'
 name_of_sole κs a r r' e e' p q = sole p q
 
-pub number_of_sole : (κs : _) (a : _) (r r' : _) (e e' : _) → number_of_lem.Learnt κs a r e → number_of_lem.Learnt κs a r' e' → r ≡ r'
+pub number_of_sole : (κs : _) (a : _) (r r' : _) (e e' : _) → number_of.Learnt κs a r e → number_of.Learnt κs a r' e' → r ≡ r'
 number_of_sole κs a r r' e e' p q = sole p q
 
 abbrev unsaid : OrNumber (Bool × ℕ) → Signed
@@ -35,7 +35,7 @@ comes_back (Plus m) = refl
 comes_back (Minus m) = refl
 comes_back NotWhole = refl
 
-pub signed_of_sole : (κs : _) (a : _) (r r' : _) (e e' : _) → Signed-of.Learnt κs a r e → Signed-of.Learnt κs a r' e' → r ≡ r'
+pub signed_of_sole : (κs : _) (a : _) (r r' : _) (e e' : _) → signed_of.Learnt κs a r e → signed_of.Learnt κs a r' e' → r ≡ r'
 signed_of_sole κs a r r' e e' p q = sym (comes_back r) ∙ ap unsaid (sole p q) ∙ comes_back r'
 
 pub kind_at_sole : (κs : _) (a : _) (r r' : _) (e e' : _) → kind_at.Learnt κs a r e → kind_at.Learnt κs a r' e' → r ≡ r'
