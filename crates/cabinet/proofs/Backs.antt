@@ -1,36 +1,43 @@
--- What the machine left is written over all the bytes, since a fit state stays fit.
-use Prim.Native.Nat.{ℕ, ◌*◌, ◌/◌, ◌%◌, ◌<◌, ◌≤◌}
+-- What the machine left is written over all the bytes, since a fit state stays fit; a refusal leaves them.
+use Prim.Native.Nat.{ℕ, ◌*◌, ◌≤◌}
 use mathlib.Core.Path.{◌≡◌, refl, sym, ◌∙◌, ap}
+use mathlib.Core.Logic.{◌⊎◌, inl, inr}
 use mathlib.Core.Bool.{Bool, true, false, true≢false}
 use mathlib.Core.List.{List}
 use native.Mathlib.Omega.{arith}
-use borrow.Author.Tests.{eq-eqb, ne_eqb, eqb-true}
+use borrow.Author.Tests.{eq-eqb, ne_eqb, eqb-true, lt-ltb, le-ltb}
 use lib.Dec.{eqb, leb}
-use lib.ListN.{length, take}
-use lib.Seq.{length-take-le}
+use lib.ListN.{length}
+use Rattle.std.specs.declared.result.Result.{Result}
+use Rattle.std.specs.declared.result.Result.TheVariants.{Ok, Err}
 use Rattle.word.specs.Core.{length_fits, words_fit}
 use Rattle.machine.specs.declared.outcome.Registers.{Registers}
 use Rattle.machine.specs.declared.outcome.Answer.{Answer}
+use Rattle.machine.specs.declared.outcome.End.{End}
 use Rattle.machine.specs.declared.outcome.Ran.{Ran}
+use Rattle.machine.specs.declared.outcome.Refusal.{Refusal}
 use Rattle.word.specs.Choices.{if◌then◌otherwise◌}
 use Rattle.machine.specs.States.{state_of}
-use Rattle.machine.specs.Steps.{registers_fit, refusal_of, Stepped, ended_as, execute_of, step_of, answered}
+use Rattle.machine.specs.Steps.{registers_fit, refusal_of, Stepped, ended_as, execute_of, step_of, answered, end_number, refusal_number}
 use Rattle.machine.specs.Runs.{Run, ends_at, run_from, run_of, ran_of}
 use Rattle.laws.specs.Fit.{Fit}
 use Rattle.laws.proofs.FitChecks.{fit_refusal}
 use Rattle.laws.proofs.FitSteps.{step_fit, step_length}
 use Rattle.laws.proofs.FitRuns.{run_fit, run_length}
-use Rattle.tape.specs.Files.{words_of, bytes_of, write_file_of, FileRead}
+use Rattle.laws.proofs.Numbers.{end_from, refusal_within}
+use Rattle.tape.specs.Files.{words_of, bytes_of, read_error_number, write_file_of}
 use Rattle.tape.proofs.Backs.{length_fits_is}
 use Rattle.tape.proofs.Numbers.{write_fits}
 use Rattle.tape.proofs.Bytes.{write_yes}
-use Rattle.tape.proofs.Words.{words_length}
+use Rattle.tape.specs.declared.errors.ReadError.{ReadError}
+use Rattle.cabinet.specs.declared.refused.Refused.{Refused}
 use Rattle.cabinet.specs.Rows.{row_of, set_of, row_number_of}
-use Rattle.cabinet.specs.Crossings.{StepBytes, step_bytes, refuses, step_back_of, step_bytes_of, RunBytes, run_bytes, run_back_of, run_bytes_of}
-use Rattle.cabinet.proofs.Sets.{row_words, row_length, read_exact, row_good}
+use Rattle.cabinet.specs.Crossings.{step_bytes, refuses, step_back_of, step_bytes_of, run_bytes, run_back_of, run_bytes_of}
+use Rattle.cabinet.specs.ForCode.Refusals.{by_file, by_machine, step_by, run_by}
+use Rattle.cabinet.specs.ForCode.Rooms.{Back, words_read, set_read}
+use Rattle.cabinet.proofs.Readings.{Filled, filled, unread, positive}
+use Rattle.cabinet.proofs.Sets.{Taken, taken, untaken, row_first, row_words, row_length}
 use Rattle.cabinet.proofs.NarrowSets.{narrowed}
-use Rattle.cabinet.proofs.Counts.{Whole}
-use Rattle.cabinet.specs.ForCode.Rooms.{Room, written_back, narrow_set}
 
 -- ---- a number that does not refuse
 
@@ -68,6 +75,16 @@ run_accepted core g budget f = by (eqb (refusal_of core g) 0) refl f
 
 -- ---- what is written
 
+end_accepted : (e : End) → refuses (end_number e) ≡ false
+end_accepted e = by (end_from e)
+  where
+    by : (end_number e ≡ 0) ⊎ (11 ≤ end_number e) → refuses (end_number e) ≡ false
+    by (inl z) = rw z refl
+    by (inr h) = rw (lt-ltb 0 (end_number e) (omega arith), le-ltb (end_number e) 11 h)
+
+refusal_refused : (n : Refusal) → refuses (refusal_number n) ≡ true
+refusal_refused n = rw (lt-ltb 0 (refusal_number n) (refusal_within n).0, lt-ltb (refusal_number n) 11 (omega (arith, refusal_within n)))
+
 pub fit_parts : (core : List ℕ) (g : Registers) → refusal_of core g ≡ 0 → (length_fits core ≡ true) × (words_fit core ≡ true)
 unfolding refusal_of if◌then◌otherwise◌
 fit_parts core g e = by (length_fits core) (words_fit core) (registers_fit g) e
@@ -88,121 +105,91 @@ row_written words regs g e l =
     let n : length (row_of g) ≡ 11 = row_length g in
     sym (write_yes (row_of g) regs (sym (write_fits (row_of g) (length regs) (length_fits_is (row_of g) (omega arith) (omega arith)) (row_words g f.regs) (omega arith))) refl)
 
--- Either nothing, or the state of a number that does not refuse.
-pub left_back : (n : ℕ) (words core regs : List ℕ) (g : Registers) → (refuses n ≡ false → (refusal_of words g ≡ 0) × (length core ≡ 6 * length words)) → length regs ≡ 66
-    → written_back n words g core regs ≡ step_back_of (record { number = n; core = words; regs = g }) core regs
-unfolding written_back step_back_of if◌then◌otherwise◌
-left_back n words core regs g h r = by (refuses n) h
-  where
-    by : (b : Bool) → (b ≡ false → (refusal_of words g ≡ 0) × (length core ≡ 6 * length words))
-        → (if b then step_bytes n core regs otherwise step_bytes n (write_file_of words core) (write_file_of (row_of g) regs)) ≡ (if b then step_bytes n core regs otherwise step_bytes n (bytes_of words) (bytes_of (row_of g)))
-    by true h = refl
-    by false h = rw (core_written words core g (h refl).0 (h refl).1, row_written words regs g (h refl).0 r)
+-- A fit state, handed back, is all the bytes.
+pub handed_back : (words : List ℕ) {core core' regs regs' : List ℕ} (g : Registers) → refusal_of words g ≡ 0 → length core ≡ 6 * length words → length regs ≡ 66 → Back words g core core' regs regs'
+    → (core' ≡ bytes_of words) × (regs' ≡ bytes_of (row_of g))
+handed_back words {core} {regs = regs} g e l r h = (h.words_back ∙ core_written words core g e l, h.set_back ∙ row_written words regs g e r)
 
-pub hands_back : (n : ℕ) (words core regs : List ℕ) (g : Registers) {core' regs' row : List ℕ} → refuses n ≡ false → core' ≡ write_file_of words core → row ≡ row_of g → regs' ≡ write_file_of row regs
-    → step_bytes n core' regs' ≡ written_back n words g core regs
-unfolding written_back if◌then◌otherwise◌
-hands_back n words core regs g f c r e = rw (f, c, e, r)
-
--- ---- a step and a run, handed back
-
-step_back : (words words' core core' regs regs' : List ℕ) (g : Registers) (a : Answer) → length core ≡ 6 * length words → length regs ≡ 66
-    → answered a words' ≡ step_of words g → step_bytes a.number core' regs' ≡ written_back a.number words' a.regs core regs
-    → step_bytes a.number core' regs' ≡ step_back_of (step_of words g) core regs
-step_back words words' core core' regs regs' g a l r e h =
-    h ∙ left_back a.number words' core regs a.regs fits r ∙ ap (λ (s : Stepped). step_back_of s core regs) e
-  where
-    fits : refuses a.number ≡ false → (refusal_of words' a.regs ≡ 0) × (length core ≡ 6 * length words')
-    fits f =
-        let z : refusal_of words g ≡ 0 = step_accepted words g (ap (λ (s : Stepped). refuses s.number) (sym e) ∙ f) in
-        let same : length words' ≡ length words = ap (λ (s : Stepped). length s.core) e ∙ step_length words g z in
-        (ap (λ (s : Stepped). refusal_of s.core s.regs) e ∙ step_fit words g z, omega arith)
-
-run_back : (words words' core core' regs regs' : List ℕ) (g : Registers) (a : Ran) (budget : ℕ) → length core ≡ 6 * length words → length regs ≡ 66
-    → ran_of a words' ≡ run_of words g budget → step_bytes a.stop core' regs' ≡ written_back a.stop words' a.regs core regs
-    → run_bytes a.stop core' regs' a.completed ≡ run_back_of (run_of words g budget) core regs
-unfolding run_back_of
-run_back words words' core core' regs regs' g a budget l r e h =
-    ap counting (h ∙ left_back a.stop words' core regs a.regs fits r) ∙ ap (λ (s : Run). run_back_of s core regs) e
-  where
-    counting : StepBytes → RunBytes
-    counting x = record { left = x; completed = a.completed }
-
-    fits : refuses a.stop ≡ false → (refusal_of words' a.regs ≡ 0) × (length core ≡ 6 * length words')
-    fits f =
-        let z : refusal_of words g ≡ 0 = run_accepted words g budget (ap (λ (s : Run). refuses s.stop) (sym e) ∙ f) in
-        let same : length words' ≡ length words = ap (λ (s : Run). length s.core) e ∙ run_length words g budget z in
-        (ap (λ (s : Run). refusal_of s.core s.regs) e ∙ run_fit words g budget z, omega arith)
-
--- ---- from bytes and back
-
-module _ (old core regs : List ℕ) (room : Room old core regs) {words : List ℕ} {n : ℕ} (read : FileRead core old words n) where
-  pub read_words : words ≡ words_of (length old) core
-  read_words = read_exact core old room.some (omega (arith, room.most)) room.exact read
-
-  pub read_length : length core ≡ 6 * length words
-  read_length = room.exact ∙ ap (λ (k : ℕ). 6 * k) (sym (ap length read_words ∙ words_length (length old) core))
+-- ---- a step
 
 step_away : (words core regs : List ℕ) (g : Registers) → (refusal_of words g ≡ 0 → ⊥) → step_back_of (step_of words g) core regs ≡ step_bytes (refusal_of words g) core regs
 unfolding step_of step_back_of if◌then◌otherwise◌
 step_away words core regs g n = rw (ne_eqb (refusal_of words g) 0 n, refusal_refuses words g n)
 
+module _ (core regs : List ℕ) where
+  pub step_unread : {why : ReadError} → Err why ≡ words_read core → {r : Result End Refused} → r ≡ Err (by_file why) → step_by r core regs ≡ step_bytes_of core regs
+  unfolding step_bytes_of if◌then◌otherwise◌
+  step_unread {why} e s = rw (s, ← row_first (length core) (unread core e) (positive why) regs, ne_eqb (read_error_number why) 0 (positive why))
+
+  module _ {words : List ℕ} (read : Ok words ≡ words_read core) where
+    full : Filled core words
+    full = filled core read
+
+    pub step_untaken : {why : Refusal} → Err why ≡ set_read regs → {r : Result End Refused} → r ≡ Err (by_machine why) → step_by r core regs ≡ step_bytes_of core regs
+    unfolding step_bytes_of if◌then◌otherwise◌
+    step_untaken e s = rw (s, (untaken (length core) full.good regs e).0, ← (untaken (length core) full.good regs e).1)
+
+    module _ {g : Registers} (set : Ok g ≡ set_read regs) (words' : List ℕ) where
+      got : Taken (length core) full.good regs g
+      got = taken (length core) full.good regs set
+
+      step_is : (r : Result Answer Refusal) → answered g r words' ≡ step_of words g → step_back_of (answered g r words') core regs ≡ step_bytes_of core regs
+      unfolding step_bytes_of if◌then◌otherwise◌
+      step_is r e =
+          rw (e, eq-eqb (row_number_of (length core) regs) 0 got.number, ← full.said, got.set)
+          (narrowed (λ (x : Registers). step_back_of (step_of words x) core regs) (λ (k : ℕ). step_bytes k core regs) words (set_of (words_of 11 regs)) (step_away words core regs))
+
+      pub step_refused : (why : Refusal) → answered g (Err why) words' ≡ step_of words g → {r : Result End Refused} → r ≡ Err (by_machine why) → step_by r core regs ≡ step_bytes_of core regs
+      unfolding step_back_of if◌then◌otherwise◌
+      step_refused why e s = rw s (rw (refusal_refused why) refl ∙ step_is (Err why) e)
+
+      pub step_ended : (a : Answer) → answered g (Ok a) words' ≡ step_of words g → {core' regs' : List ℕ} → Back words' a.regs core core' regs regs'
+          → step_bytes (end_number a.end) core' regs' ≡ step_bytes_of core regs
+      unfolding step_back_of if◌then◌otherwise◌
+      step_ended a e h =
+          let z : refusal_of words g ≡ 0 = step_accepted words g (ap (λ (s : Stepped). refuses s.number) (sym e) ∙ end_accepted a.end) in
+          let l : length words' ≡ length words = ap (λ (s : Stepped). length s.core) e ∙ step_length words g z in
+          let back = handed_back words' a.regs (ap (λ (s : Stepped). refusal_of s.core s.regs) e ∙ step_fit words g z) (omega (arith, full.exact, l)) got.row h in
+          rw (back.0, back.1) (rw (end_accepted a.end) refl ∙ step_is (Ok a) e)
+
+-- ---- a run
+
 run_away : (words core regs : List ℕ) (budget : ℕ) (g : Registers) → (refusal_of words g ≡ 0 → ⊥) → run_back_of (run_of words g budget) core regs ≡ run_bytes (refusal_of words g) core regs 0
 unfolding run_of run_back_of step_back_of if◌then◌otherwise◌
 run_away words core regs budget g n = rw (ne_eqb (refusal_of words g) 0 n, refusal_refuses words g n)
 
-module _ (old core regs : List ℕ) (room : Room old core regs) {words : List ℕ} {n : ℕ} (read : FileRead core old words n) (g : Registers) {h : Registers} (narrow : h ≡ narrow_set g) where
-  pub step_crossed : (words' : List ℕ) {core' regs' : List ℕ} (a : Answer) → answered a words' ≡ step_of words h
-      → step_bytes a.number core' regs' ≡ written_back a.number words' a.regs core regs
-      → step_bytes a.number core' regs' ≡ step_back_of (step_of (words_of (length old) core) g) core regs
-  step_crossed words' {core'} {regs'} a e w =
-      step_back words words' core core' regs regs' h a (read_length old core regs room read) room.row e w
-      ∙ ap (λ (x : Registers). step_back_of (step_of words x) core regs) narrow
-      ∙ narrowed (λ (x : Registers). step_back_of (step_of words x) core regs) (λ (k : ℕ). step_bytes k core regs) words g (step_away words core regs)
-      ∙ ap (λ (ws : List ℕ). step_back_of (step_of ws g) core regs) (read_words old core regs room read)
-
-  pub run_crossed : (words' : List ℕ) {core' regs' : List ℕ} (a : Ran) (budget : ℕ) → ran_of a words' ≡ run_of words h budget
-      → step_bytes a.stop core' regs' ≡ written_back a.stop words' a.regs core regs
-      → run_bytes a.stop core' regs' a.completed ≡ run_back_of (run_of (words_of (length old) core) g budget) core regs
-  run_crossed words' {core'} {regs'} a budget e w =
-      run_back words words' core core' regs regs' h a budget (read_length old core regs room read) room.row e w
-      ∙ ap (λ (x : Registers). run_back_of (run_of words x budget) core regs) narrow
-      ∙ narrowed (λ (x : Registers). run_back_of (run_of words x budget) core regs) (λ (k : ℕ). run_bytes k core regs 0) words g (run_away words core regs budget)
-      ∙ ap (λ (ws : List ℕ). run_back_of (run_of ws g budget) core regs) (read_words old core regs room read)
-
--- ---- room of 32,768 words, of which a core fills the first
-
-module _ (all core : List ℕ) (full : length all ≡ 32768) (w : Whole (length core)) where
-  pub whole_most : length core / 6 ≤ length all
-  whole_most =
-      let most : length core ≤ 196608 = w.most in
-      omega arith
-
-  pub whole_length : length (take (length core / 6) all) ≡ length core / 6
-  whole_length = length-take-le (length core / 6) all whole_most
-
-  pub whole_room : (regs : List ℕ) → length regs ≡ 66 → Room (take (length core / 6) all) core regs
-  whole_room regs row =
-      let l : length (take (length core / 6) all) ≡ length core / 6 = whole_length in
-      let six : length core % 6 ≡ 0 = w.six in
-      let some : 0 < length core = w.some in
-      let most : length core ≤ 196608 = w.most in
-      record { some = omega arith; most = omega arith; exact = omega arith; row = row }
-
-module _ (all core regs : List ℕ) (full : length all ≡ 32768) (z : row_number_of (length core) regs ≡ 0) where
-  pub step_came : {x : StepBytes} → x ≡ step_back_of (step_of (words_of (length (take (length core / 6) all)) core) (set_of (words_of 11 regs))) core regs → x ≡ step_bytes_of core regs
-  unfolding step_bytes_of if◌then◌otherwise◌
-  step_came e = e ∙ rw (whole_length all core full (row_good (length core) regs z).core, eq-eqb (row_number_of (length core) regs) 0 z)
-
-  pub run_came : (budget : ℕ) {x : RunBytes} → x ≡ run_back_of (run_of (words_of (length (take (length core / 6) all)) core) (set_of (words_of 11 regs)) budget) core regs → x ≡ run_bytes_of core regs budget
+module _ (core regs : List ℕ) (budget : ℕ) where
+  pub run_unread : {why : ReadError} → Err why ≡ words_read core → {r : Result Ran Refused} → r ≡ Err (by_file why) → run_by r core regs ≡ run_bytes_of core regs budget
   unfolding run_bytes_of if◌then◌otherwise◌
-  run_came budget e = e ∙ rw (whole_length all core full (row_good (length core) regs z).core, eq-eqb (row_number_of (length core) regs) 0 z)
+  run_unread {why} e s = rw (s, ← row_first (length core) (unread core e) (positive why) regs, ne_eqb (read_error_number why) 0 (positive why))
 
-module _ (core regs : List ℕ) {n : ℕ} (e : n ≡ row_number_of (length core) regs) (z : n ≡ 0 → ⊥) where
-  pub step_refused : step_bytes n core regs ≡ step_bytes_of core regs
-  unfolding step_bytes_of if◌then◌otherwise◌
-  step_refused = rw (← e, ne_eqb n 0 z)
+  module _ {words : List ℕ} (read : Ok words ≡ words_read core) where
+    filled_up : Filled core words
+    filled_up = filled core read
 
-  pub run_refused : (budget : ℕ) → run_bytes n core regs 0 ≡ run_bytes_of core regs budget
-  unfolding run_bytes_of if◌then◌otherwise◌
-  run_refused budget = rw (← e, ne_eqb n 0 z)
+    pub run_untaken : {why : Refusal} → Err why ≡ set_read regs → {r : Result Ran Refused} → r ≡ Err (by_machine why) → run_by r core regs ≡ run_bytes_of core regs budget
+    unfolding run_bytes_of if◌then◌otherwise◌
+    run_untaken e s = rw (s, (untaken (length core) filled_up.good regs e).0, ← (untaken (length core) filled_up.good regs e).1)
+
+    module _ {g : Registers} (set : Ok g ≡ set_read regs) (words' : List ℕ) where
+      had : Taken (length core) filled_up.good regs g
+      had = taken (length core) filled_up.good regs set
+
+      run_is : (r : Result Ran Refusal) → ran_of g r words' ≡ run_of words g budget → run_back_of (ran_of g r words') core regs ≡ run_bytes_of core regs budget
+      unfolding run_bytes_of if◌then◌otherwise◌
+      run_is r e =
+          rw (e, eq-eqb (row_number_of (length core) regs) 0 had.number, ← filled_up.said, had.set)
+          (narrowed (λ (x : Registers). run_back_of (run_of words x budget) core regs) (λ (k : ℕ). run_bytes k core regs 0) words (set_of (words_of 11 regs)) (run_away words core regs budget))
+
+      pub run_refused : (why : Refusal) → ran_of g (Err why) words' ≡ run_of words g budget → {r : Result Ran Refused} → r ≡ Err (by_machine why) → run_by r core regs ≡ run_bytes_of core regs budget
+      unfolding run_back_of step_back_of if◌then◌otherwise◌
+      run_refused why e s = rw s (rw (refusal_refused why) refl ∙ run_is (Err why) e)
+
+      pub run_ended : (x : Ran) → ran_of g (Ok x) words' ≡ run_of words g budget → {core' regs' : List ℕ} → Back words' x.regs core core' regs regs'
+          → run_bytes (end_number x.end) core' regs' x.completed ≡ run_bytes_of core regs budget
+      unfolding run_back_of step_back_of if◌then◌otherwise◌
+      run_ended x e h =
+          let z : refusal_of words g ≡ 0 = run_accepted words g budget (ap (λ (s : Run). refuses s.stop) (sym e) ∙ end_accepted x.end) in
+          let l : length words' ≡ length words = ap (λ (s : Run). length s.core) e ∙ run_length words g budget z in
+          let back = handed_back words' x.regs (ap (λ (s : Run). refusal_of s.core s.regs) e ∙ run_fit words g budget z) (omega (arith, filled_up.exact, l)) had.row h in
+          rw (back.0, back.1) (rw (end_accepted x.end) refl ∙ run_is (Ok x) e)

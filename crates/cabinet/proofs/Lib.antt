@@ -1,8 +1,8 @@
-pub mod Counts
+pub mod Readings
+pub mod Marks
 pub mod Sets
 pub mod NarrowSets
 pub mod Backs
-pub mod Rooms
 pub mod Stretches
 pub mod Verdicts
 pub mod Postings

@@ -2,9 +2,9 @@
 use Prim.Native.Nat.{ℕ}
 use mathlib.Core.Path.{◌≡◌, ap}
 use Rattle.word.proofs.Sole.{sole}
-use Rattle.inspector.specs.declared.verdict.Verdict.{Verdict}
+use Rattle.inspector.specs.Verdicts.{Verdict}
 use Rattle.cabinet.specs.Crossings.{StepBytes, RunBytes}
-use Rattle.cabinet.specs.Arrays.{Handed}
+use Rattle.handout.specs.HandOut.{Handed}
 use Rattle.cabinet.specs.Posts.{PostBytes}
 use Rattle.cabinet.proofs.fifty_five_load.Reads as load
 use Rattle.cabinet.proofs.fifty_five_step.Reads as step

@@ -1,69 +1,76 @@
--- The lengths that a 0 tells, and the row of a fit set is of words.
-use Prim.Native.Nat.{ℕ, ◌*◌, ◌^◌, ◌<◌}
-use mathlib.Core.Path.{◌≡◌, refl, sym, ◌∙◌, ap}
-use mathlib.Core.Bool.{Bool, true, false, true≢false}
+-- The checks of a register set's bytes, and the row of a fit set is of words.
+use Prim.Native.Nat.{ℕ, ◌^◌, ◌<◌}
+use mathlib.Core.Path.{◌≡◌, refl}
+use mathlib.Core.Bool.{Bool, true, false}
 use mathlib.Core.List.{List, [], ◌∷◌}
 use native.Mathlib.Omega.{arith}
-use borrow.Author.Tests.{lt-ltb, eq-eqb, eqb-true}
-use mir.Val.{bool_byte}
+use borrow.Author.Tests.{lt-ltb, eq-eqb, ne_eqb, eqb-true, eqb-false}
 use lib.Dec.{eqb}
 use lib.ListN.{length}
+use Rattle.std.specs.declared.result.Result.TheVariants.{Ok, Err}
 use Rattle.machine.specs.declared.outcome.Registers.{Registers}
+use Rattle.machine.specs.declared.outcome.Refusal.{Refusal}
+use Rattle.machine.specs.declared.outcome.Refusal.TheVariants.{Registers as Register}
 use Rattle.word.specs.Core.{words_fit}
-use Rattle.tape.specs.Files.{words_of, FileRead}
-use Rattle.tape.proofs.Numbers.{whole_read}
-use Rattle.tape.proofs.Words.{read_yes}
-use Rattle.laws.specs.Fit.{Word, Holds, InRange as RangedSet}
-use Rattle.word.specs.Choices.{if◌then◌otherwise◌}
-use Rattle.cabinet.specs.Lengths.{core_number_of}
-use Rattle.cabinet.specs.Rows.{row_of, marks_fit, lengths_number_of, row_number_of}
-use Rattle.cabinet.proofs.Counts.{Whole, core_whole}
 use Rattle.word.specs.Field.{one_of}
+use Rattle.word.specs.Choices.{if◌then◌otherwise◌}
+use Rattle.tape.specs.Files.{words_of}
+use Rattle.laws.specs.Fit.{Word, Holds, InRange as RangedSet}
+use Rattle.cabinet.specs.Lengths.{core_number_of}
+use Rattle.cabinet.specs.Rows.{row_of, set_of, marks_fit, lengths_number_of, row_number_of}
+use Rattle.cabinet.specs.ForCode.Rooms.{narrow_set, set_by, set_read}
 
 -- ---- from a row
 
--- Bytes as many as the words that they are read into.
-pub read_exact : (bytes old : List ℕ) {new : List ℕ} {r : ℕ} → 0 < length old → length old < 32769 → length bytes ≡ 6 * length old → FileRead bytes old new r
-    → new ≡ words_of (length old) bytes
-read_exact bytes old some most exact f =
-    f.core ∙ sym (read_yes bytes old (whole_read bytes (length old) (record { some = some; few = omega arith; exact = exact })) refl)
+-- A core that is refused is refused first.
+module _ (n : ℕ) {m : ℕ} (e : m ≡ core_number_of n) (z : m ≡ 0 → ⊥) where
+  pub lengths_first : (row : ℕ) → m ≡ lengths_number_of n row
+  unfolding lengths_number_of if◌then◌otherwise◌
+  lengths_first row = rw (← e, ne_eqb m 0 z)
 
-pub row_read : (regs old : List ℕ) {row : List ℕ} {r : ℕ} → length old ≡ 11 → length regs ≡ 66 → FileRead regs old row r → row ≡ words_of 11 regs
-row_read regs old n l f =
-    read_exact regs old (omega arith) (omega arith) (omega arith) f ∙ ap (λ (k : ℕ). words_of k regs) n
+  pub row_first : (regs : List ℕ) → m ≡ row_number_of n regs
+  unfolding row_number_of if◌then◌otherwise◌
+  row_first regs = rw (← lengths_first (length regs), ne_eqb m 0 z)
 
--- A set of the right length, beside a core of n bytes.
-pub record Good (n : ℕ) (regs : List ℕ) : Type 0 where
-  pub core : Whole n
-  pub row : length regs ≡ 66
+-- Then a set that is not 66 bytes, or has a mark that is neither 0 nor 1.
+module _ (n : ℕ) (good : core_number_of n ≡ 0) where
+  pub lengths_odd : {row : ℕ} → (row ≡ 66 → ⊥) → 3 ≡ lengths_number_of n row
+  unfolding lengths_number_of if◌then◌otherwise◌
+  lengths_odd {row} h = rw (good, ne_eqb row 66 h)
 
-pub lengths_good : (n : ℕ) (regs : List ℕ) → lengths_number_of n (length regs) ≡ 0 → Good n regs
-unfolding lengths_number_of if◌then◌otherwise◌
-lengths_good n regs e = by (eqb (core_number_of n) 0) (eqb (length regs) 66) refl refl e
-  where
-    by : (a b : Bool) → eqb (core_number_of n) 0 ≡ a → eqb (length regs) 66 ≡ b → ◌≡◌ {A = ℕ} (if a then (if b then 0 otherwise 3) otherwise core_number_of n) 0 → Good n regs
-    by true true p q e = record { core = core_whole n (eqb-true (core_number_of n) 0 p); row = eqb-true (length regs) 66 q }
-    by true false p q e = absurd (omega arith)
-    by false b p q e = absurd (true≢false (sym (eq-eqb (core_number_of n) 0 e) ∙ p))
+  pub lengths_good : {row : ℕ} → row ≡ 66 → lengths_number_of n row ≡ 0
+  unfolding lengths_number_of if◌then◌otherwise◌
+  lengths_good {row} h = rw (good, eq-eqb row 66 h)
 
-pub row_good : (n : ℕ) (regs : List ℕ) → row_number_of n regs ≡ 0 → Good n regs
-unfolding row_number_of if◌then◌otherwise◌
-row_good n regs e = by (eqb (lengths_number_of n (length regs)) 0) (marks_fit (words_of 11 regs)) refl e
-  where
-    by : (a b : Bool) → eqb (lengths_number_of n (length regs)) 0 ≡ a → ◌≡◌ {A = ℕ} (if a then (if b then 0 otherwise 3) otherwise lengths_number_of n (length regs)) 0 → Good n regs
-    by true b p e = lengths_good n regs (eqb-true (lengths_number_of n (length regs)) 0 p)
-    by false b p e = lengths_good n regs e
+  -- The set that was read, of bytes whose check gave 0.
+  pub record Taken (regs : List ℕ) (g : Registers) : Type 0 where
+    pub number : row_number_of n regs ≡ 0
+    pub row : length regs ≡ 66
+    pub set : g ≡ narrow_set (set_of (words_of 11 regs))
+
+  pub taken : (regs : List ℕ) {g : Registers} → Ok g ≡ set_read regs → Taken regs g
+  unfolding set_read set_by row_number_of if◌then◌otherwise◌
+  taken regs {g} e = by (eqb (length regs) 66) (marks_fit (words_of 11 regs)) refl refl e
+    where
+      by : (a b : Bool) → eqb (length regs) 66 ≡ a → marks_fit (words_of 11 regs) ≡ b
+          → Ok g ≡ (if a then (if b then Ok (narrow_set (set_of (words_of 11 regs))) otherwise Err Register) otherwise Err Register) → Taken regs g
+      by true true p q e =
+          let l : length regs ≡ 66 = eqb-true (length regs) 66 p in
+          record { number = rw (lengths_good l, q); row = l; set = cc }
+      by true false p q e = cc
+      by false b p q e = cc
+
+  pub untaken : (regs : List ℕ) {why : Refusal} → Err why ≡ set_read regs → (why ≡ Register) × (3 ≡ row_number_of n regs)
+  unfolding set_read set_by row_number_of if◌then◌otherwise◌
+  untaken regs {why} e = by (eqb (length regs) 66) (marks_fit (words_of 11 regs)) refl refl e
+    where
+      by : (a b : Bool) → eqb (length regs) 66 ≡ a → marks_fit (words_of 11 regs) ≡ b
+          → Err why ≡ (if a then (if b then Ok (narrow_set (set_of (words_of 11 regs))) otherwise Err Register) otherwise Err Register) → (why ≡ Register) × (3 ≡ row_number_of n regs)
+      by true true p q e = cc
+      by true false p q e = (cc, rw (lengths_good (eqb-true (length regs) 66 p), q))
+      by false b p q e = (cc, rw (← lengths_odd (eqb-false (length regs) 66 p)))
 
 -- ---- to a row
-
-pub mark_of_is : (on : Bool) → bool_byte on ≡ one_of on
-mark_of_is true = refl
-mark_of_is false = refl
-
-pub row_made : (g : Registers) {p q t u : ℕ} → p ≡ one_of g.afull → q ≡ one_of g.bfull → t ≡ one_of g.salf → u ≡ one_of g.msff
-    → ◌≡◌ {A = List ℕ} (g.a ∷ p ∷ g.b ∷ q ∷ g.s ∷ g.f ∷ g.c ∷ g.r ∷ g.l ∷ t ∷ u ∷ []) (row_of g)
-unfolding row_of
-row_made g p q t u = rw (p, q, t, u)
 
 cons_fits : (w : ℕ) (ws : List ℕ) → Word w → words_fit ws ≡ true → words_fit (w ∷ ws) ≡ true
 unfolding words_fit

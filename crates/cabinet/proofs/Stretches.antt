@@ -1,21 +1,28 @@
 -- The stretch of an array cell: from words to bytes, and from numbers of 16 bits to any.
-use Prim.Native.Nat.{ℕ, ◌/◌, ◌≤◌}
+use Prim.Native.Nat.{ℕ, ◌≤◌}
 use mathlib.Core.Path.{◌≡◌, refl, sym, ◌∙◌}
 use mathlib.Core.Bool.{Bool, true, false, ◌&&◌}
 use mathlib.Core.List.{List}
 use native.Mathlib.Omega.{arith}
 use borrow.Author.Tests.{le-ltb, leb-false, eq-eqb, ne_eqb}
 use lib.Dec.{eqb, ltb, leb}
-use lib.ListN.{length, take}
+use lib.ListN.{length}
 use Rattle.word.specs.Core.{length_fits, words_fit}
 use Rattle.word.specs.Layout.{size_of, address_of}
 use Rattle.word.specs.Choices.{if◌then◌otherwise◌}
-use Rattle.handout.specs.HandOut.{cell_word, hand_out_number, stretch_start, stretch_count}
-use Rattle.tape.specs.Files.{words_of, FileRead}
+use Rattle.std.specs.declared.result.Result.{Result}
+use Rattle.std.specs.declared.result.Result.TheVariants.{Ok, Err}
+use Rattle.handout.specs.declared.Stretch.{Stretch}
+use Rattle.handout.specs.declared.HandOutError.{HandOutError}
+use Rattle.handout.specs.HandOut.{cell_word, hand_out_number, stretch_start, stretch_count, Handed, handed_by, handed_of}
+use Rattle.tape.specs.declared.errors.ReadError.{ReadError}
+use Rattle.tape.specs.Files.{read_error_number}
 use Rattle.cabinet.specs.Lengths.{core_number_of}
-use Rattle.cabinet.specs.ForCode.Rooms.{Roomy, narrow_of}
-use Rattle.cabinet.specs.Arrays.{Handed, handed, handed_of, handed_bytes_of}
-use Rattle.cabinet.proofs.Rooms.{core_part, core_read}
+use Rattle.cabinet.specs.declared.refused.Refused.{Refused}
+use Rattle.cabinet.specs.ForCode.Refusals.{by_file, by_hand_out, told_by}
+use Rattle.cabinet.specs.ForCode.Rooms.{words_read, narrow_of}
+use Rattle.cabinet.specs.Arrays.{handed, handed_bytes_of}
+use Rattle.cabinet.proofs.Readings.{Filled, filled, unread, positive}
 
 -- ---- from 16 bits
 
@@ -24,7 +31,7 @@ abbrev early : Bool → Bool → ℕ
 early a b = if a then (if b then 3 otherwise 2) otherwise 1
 
 out_of_range : (words : List ℕ) (r cell : ℕ) → (ltb r 512 && ltb cell 1024) ≡ false → handed_of words r cell ≡ handed (early (length_fits words) (words_fit words)) 0 0
-unfolding handed_of hand_out_number stretch_start stretch_count if◌then◌otherwise◌
+unfolding hand_out_number stretch_start stretch_count if◌then◌otherwise◌
 out_of_range words r cell e = rw e (by (length_fits words) (words_fit words))
   where
     by : (a b : Bool) → handed (early a b) (if eqb (early a b) 0 then address_of (cell_word words r cell) otherwise 0) (if eqb (early a b) 0 then size_of (cell_word words r cell) otherwise 0) ≡ handed (early a b) 0 0
@@ -59,24 +66,22 @@ narrow_same words r cell = by _ _ refl refl
         out_of_range words 65535 65535 (past_r 65535 65535 (omega arith))
         ∙ sym (out_of_range words r cell (past_r r cell (omega (arith, leb-false r 65535 p))))
 
--- ---- what each function answers
+-- ---- what the call answers
 
-pub told : (words : List ℕ) (r cell : ℕ) {n start count : ℕ} → n ≡ hand_out_number words r cell → start ≡ stretch_start words r cell → count ≡ stretch_count words r cell
-    → handed n start count ≡ handed_of words r cell
-unfolding handed_of
-told words r cell n s c = rw (n, s, c)
+module _ (core : List ℕ) (r cell : ℕ) where
+  pub told_unread : {why : ReadError} → Err why ≡ words_read core → {x : Result Stretch Refused} → x ≡ Err (by_file why) → told_by x ≡ handed_bytes_of core r cell
+  unfolding handed_bytes_of if◌then◌otherwise◌
+  told_unread {why} e s = rw (s, ← unread core e, ne_eqb (read_error_number why) 0 (positive why))
 
-pub told_read : (old core : List ℕ) (r cell : ℕ) {words : List ℕ} {n a b : ℕ} {x : Handed} → Roomy old core → FileRead core old words n → a ≡ narrow_of 65535 r → b ≡ narrow_of 65535 cell
-    → x ≡ handed_of words a b → x ≡ handed_of (words_of (length old) core) r cell
-told_read old core r cell room read p q e =
-    e ∙ rw (p, q, core_read old core room read) (narrow_same (words_of (length old) core) r cell)
+  module _ {words : List ℕ} (read : Ok words ≡ words_read core) {a b : ℕ} (p : a ≡ narrow_of 65535 r) (q : b ≡ narrow_of 65535 cell) where
+    told_is : {x : Handed} → x ≡ handed_of words a b → x ≡ handed_bytes_of core r cell
+    unfolding handed_bytes_of if◌then◌otherwise◌
+    told_is e =
+        let full : Filled core words = filled core read in
+        rw (eq-eqb (core_number_of (length core)) 0 full.good, ← full.said) (e ∙ rw (p, q) (narrow_same words r cell))
 
-pub handed_good : (all core : List ℕ) (r cell : ℕ) {x : Handed} → length all ≡ 32768 → core_number_of (length core) ≡ 0
-    → x ≡ handed_of (words_of (length (take (length core / 6) all)) core) r cell → x ≡ handed_bytes_of core r cell
-unfolding handed_bytes_of if◌then◌otherwise◌
-handed_good all core r cell full good e =
-    e ∙ rw (core_part all core full good, eq-eqb (core_number_of (length core)) 0 good)
+    pub told_none : (why : HandOutError) → handed_by (Err why) ≡ handed_of words a b → {x : Result Stretch Refused} → x ≡ Err (by_hand_out why) → told_by x ≡ handed_bytes_of core r cell
+    told_none why e s = rw s (told_is e)
 
-pub handed_bad : (core : List ℕ) (r cell : ℕ) {n : ℕ} → n ≡ core_number_of (length core) → (n ≡ 0 → ⊥) → handed n 0 0 ≡ handed_bytes_of core r cell
-unfolding handed_bytes_of if◌then◌otherwise◌
-handed_bad core r cell e h = rw (ne_eqb (core_number_of (length core)) 0 (λ z. h (e ∙ z)), e)
+    pub told_some : (s : Stretch) → handed_by (Ok s) ≡ handed_of words a b → {x : Result Stretch Refused} → x ≡ Ok s → told_by x ≡ handed_bytes_of core r cell
+    told_some t e s = rw s (told_is e)

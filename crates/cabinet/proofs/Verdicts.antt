@@ -1,29 +1,34 @@
 -- The inspector's verdict: from words to bytes.
-use Prim.Native.Nat.{ℕ, ◌/◌}
-use mathlib.Core.Path.{◌≡◌, ◌∙◌, ap}
+use Prim.Native.Nat.{ℕ}
+use mathlib.Core.Path.{◌≡◌}
 use mathlib.Core.List.{List}
 use borrow.Author.Tests.{eq-eqb, ne_eqb}
-use lib.ListN.{length, take}
+use lib.ListN.{length}
+use Rattle.std.specs.declared.result.Result.{Result}
+use Rattle.std.specs.declared.result.Result.TheVariants.{Ok, Err}
 use Rattle.word.specs.Choices.{if◌then◌otherwise◌}
-use Rattle.inspector.specs.declared.verdict.Verdict.{Verdict}
-use Rattle.inspector.specs.Verdicts.{given, verdict_of}
-use Rattle.tape.specs.Files.{words_of, FileRead}
+use Rattle.inspector.specs.declared.verdict.Broken.{Broken}
+use Rattle.inspector.specs.Verdicts.{Verdict, verdict_of, verdict_by}
+use Rattle.tape.specs.declared.errors.ReadError.{ReadError}
+use Rattle.tape.specs.Files.{read_error_number}
+use Rattle.cabinet.specs.declared.refused.Refused.{Refused}
 use Rattle.cabinet.specs.Lengths.{core_number_of}
-use Rattle.cabinet.specs.ForCode.Rooms.{Roomy}
 use Rattle.cabinet.specs.Inspections.{inspect_bytes_of}
-use Rattle.cabinet.proofs.Rooms.{core_part, core_read}
+use Rattle.cabinet.specs.ForCode.Refusals.{by_file, by_inspector, inspected_by}
+use Rattle.cabinet.specs.ForCode.Rooms.{words_read}
+use Rattle.cabinet.proofs.Readings.{Filled, filled, unread, positive}
 
-pub verdict_read : (old core sheet : List ℕ) {words : List ℕ} {n : ℕ} {v : Verdict} → Roomy old core → FileRead core old words n
-    → v ≡ verdict_of words sheet → v ≡ verdict_of (words_of (length old) core) sheet
-verdict_read old core sheet room read e =
-    e ∙ ap (λ (ws : List ℕ). verdict_of ws sheet) (core_read old core room read)
+module _ (core sheet : List ℕ) where
+  pub verdict_unread : {why : ReadError} → Err why ≡ words_read core → {x : Result (Unit {0}) Refused} → x ≡ Err (by_file why) → inspected_by x ≡ inspect_bytes_of core sheet
+  unfolding inspect_bytes_of if◌then◌otherwise◌
+  verdict_unread {why} e s = rw (s, ← unread core e, ne_eqb (read_error_number why) 0 (positive why))
 
-pub verdict_good : (all core sheet : List ℕ) {v : Verdict} → length all ≡ 32768 → core_number_of (length core) ≡ 0
-    → v ≡ verdict_of (words_of (length (take (length core / 6) all)) core) sheet → v ≡ inspect_bytes_of core sheet
-unfolding inspect_bytes_of if◌then◌otherwise◌
-verdict_good all core sheet full good e =
-    e ∙ rw (core_part all core full good, eq-eqb (core_number_of (length core)) 0 good)
+  module _ {words : List ℕ} (read : Ok words ≡ words_read core) where
+    pub verdict_read : {v : Verdict} → v ≡ verdict_of words sheet → v ≡ inspect_bytes_of core sheet
+    unfolding inspect_bytes_of if◌then◌otherwise◌
+    verdict_read e =
+        let full : Filled core words = filled core read in
+        rw (eq-eqb (core_number_of (length core)) 0 full.good, ← full.said) e
 
-pub verdict_bad : (core sheet : List ℕ) {n : ℕ} → n ≡ core_number_of (length core) → (n ≡ 0 → ⊥) → given n 0 ≡ inspect_bytes_of core sheet
-unfolding inspect_bytes_of if◌then◌otherwise◌
-verdict_bad core sheet e h = rw (ne_eqb (core_number_of (length core)) 0 (λ z. h (e ∙ z)), e)
+    pub verdict_broken : (b : Broken) → verdict_by (Err b) ≡ verdict_of words sheet → {x : Result (Unit {0}) Refused} → x ≡ Err (by_inspector b) → inspected_by x ≡ inspect_bytes_of core sheet
+    verdict_broken b e s = rw s (verdict_read e)

@@ -1,24 +1,15 @@
 -- The array call: where the words stand that an array cell names.
 use Rattle.std.specs.Prelude.{ℕ, ◌/◌, List, eqb, length}
 use Rattle.word.specs.Choices.{if◌then◌otherwise◌}
-use Rattle.handout.specs.HandOut.{hand_out_number, stretch_start, stretch_count}
+use Rattle.handout.specs.HandOut.{Handed, handed_of}
 use Rattle.tape.specs.Files.{words_of}
 use Rattle.cabinet.specs.Lengths.{core_number_of}
 
 -- A number, the first word of a stretch and how many words it has.
-pub record Handed : Type 0 where
-  pub number : ℕ
-  pub start : ℕ
-  pub count : ℕ
-
 abbrev pub handed : ℕ → ℕ → ℕ → Handed
 handed n start count = record { number = n; start = start; count = count }
 
--- Of a core's words, the hand-out's own answers.
-unfoldable pub handed_of : List ℕ → ℕ → ℕ → Handed
-handed_of words r cell = handed (hand_out_number words r cell) (stretch_start words r cell) (stretch_count words r cell)
-
--- 4 and 1 of the bytes, "each with an empty stretch"; then the hand-out's answers.
+-- 4 and 1 of the bytes, "each with an empty stretch"; then, of a core's words, the hand-out's own answers.
 unfoldable pub handed_bytes_of : List ℕ → ℕ → ℕ → Handed
 handed_bytes_of core r cell =
     if eqb (core_number_of (length core)) 0 then handed_of (words_of (length core / 6) core) r cell

@@ -1,2 +1,3 @@
 -- What only the code's own parts need: no public claim names it.
 pub mod Rooms
+pub mod Refusals

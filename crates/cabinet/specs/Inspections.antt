@@ -1,7 +1,7 @@
 -- The inspection: the inspector's answer over bytes.
 use Rattle.std.specs.Prelude.{ℕ, ◌/◌, List, eqb, length}
 use Rattle.word.specs.Choices.{if◌then◌otherwise◌}
-use Rattle.inspector.specs.declared.verdict.Verdict.{Verdict}
+use Rattle.inspector.specs.Verdicts.{Verdict}
 use Rattle.inspector.specs.Verdicts.{given, verdict_of}
 use Rattle.tape.specs.Files.{words_of}
 use Rattle.cabinet.specs.Lengths.{core_number_of}

@@ -1,14 +1,13 @@
--- Beside demand 3: the machine's whole step, its checks included, and what a run of a passed segment leaves at its end.
+-- Beside demand 3: every state reached passes the machine's checks, and what a run of a passed segment leaves at its end.
 use Prim.Native.Nat.{ℕ, zero, suc}
 use mathlib.Core.Path.{◌≡◌, refl, sym, subst}
 use mathlib.Core.List.{List}
 use native.Mathlib.Omega.{arith}
-use borrow.Author.Tests.{eq-eqb}
 use Rattle.machine.specs.declared.outcome.Cause.{Cause}
 use Rattle.machine.specs.declared.outcome.Cause.TheVariants.{Address, Overflow, Presence, Flag, Index, Unbuilt, Unwhole, ZeroDivisor}
 use Rattle.machine.specs.Outcomes.{number_of}
 use Rattle.machine.specs.States.{State}
-use Rattle.machine.specs.Steps.{Ended, next, communicated, stopped, execute_of, refusal_of, ended_as, step_of}
+use Rattle.machine.specs.Steps.{Ended, next, communicated, stopped, execute_of, refusal_of}
 use Rattle.laws.specs.Fit.{Fit, Keeps, After}
 use Rattle.laws.proofs.FitExecute.{execute_fit}
 use Rattle.laws.proofs.FitChecks.{fit_refusal}
@@ -20,8 +19,7 @@ use Rattle.demands.proofs.Passed.{Passed}
 use Rattle.demands.proofs.Answers.{passed}
 use Rattle.demands.proofs.Holds.{Kept}
 use Rattle.demands.proofs.Ends.{Inv, Good}
-use Rattle.demands.proofs.Segments.{start, reached, execute_good}
-use Rattle.word.specs.Choices.{if◌then◌otherwise◌}
+use Rattle.demands.proofs.Segments.{start, execute_good}
 
 -- The start passes the checks 1, 2 and 3, and so does every state reached.
 start_fit : (core sheet : List ℕ) → Passed core sheet → Fit (start_of core sheet)
@@ -60,22 +58,9 @@ allowed_number ZeroDivisor a = zero_divisor
 leaves_by : (core sheet : List ℕ) (n : ℕ) (l : List ℕ) → Number n → Kept core sheet l → Leaves core sheet n l
 leaves_by core sheet n l h k = record { number = h; size = k.size; outside = k.same; plain = k.plain }
 
-ended : (core sheet : List ℕ) (u : State) → Kept core sheet u.core → (e : Ended) → Good core sheet e → Leaves core sheet (ended_as e u).number (ended_as e u).core
-ended core sheet u k (next v) g = leaves_by core sheet 0 v.core spent g.at.kept
-ended core sheet u k (communicated v) g = leaves_by core sheet 17 v.core communicate g
-ended core sheet u k (stopped n) g = leaves_by core sheet (number_of n) u.core (allowed_number n g) k
-
--- Every state reached passes the checks, so that the step of it is what demand 3 speaks of; and what that step leaves.
+-- Every state reached passes the checks, so that the step of it is what demand 3 speaks of.
 pub reached_passes : (core sheet : List ℕ) → verdict_of core sheet ≡ given 0 0 → (n : ℕ) (u : State) → Reaches n (start_of core sheet) u → refusal_of u.core u.regs ≡ 0
 reached_passes core sheet e n u r = (fit_refusal u.core u.regs).1 (reached_fit core sheet (passed core sheet e) n u r)
-
-pub step_leaves : (core sheet : List ℕ) → verdict_of core sheet ≡ given 0 0 → (n : ℕ) (u : State) → Reaches n (start_of core sheet) u → Leaves core sheet (step_of u.core u.regs).number (step_of u.core u.regs).core
-unfolding step_of if◌then◌otherwise◌
-step_leaves core sheet e n u r =
-    let ok : Passed core sheet = passed core sheet e in
-    let v = reached core sheet ok n u r in
-    rw (eq-eqb (refusal_of u.core u.regs) 0 (reached_passes core sheet e n u r))
-    (ended core sheet u v.at.kept (execute_of u) (execute_good core sheet ok u v))
 
 -- A run from a state that holds the invariant, however long.
 goes_good : (core sheet : List ℕ) (u : State) → Kept core sheet u.core → (e : Ended) → Good core sheet e → (rest : State → Run)

@@ -9,8 +9,8 @@ pub demand2 : Demand2
 demand2 =
     record {
       sums = trials_come;
-      step_sole = λ core g. answered_sole;
-      run_sole = λ core g budget. ran_sole;
+      step_sole = λ core g. answered_sole g;
+      run_sole = λ core g budget. ran_sole g;
       run_none = run_none;
       run_on = run_on;
       run_com = run_com;

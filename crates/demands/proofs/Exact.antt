@@ -7,7 +7,7 @@ use mathlib.Core.List.{List, [], ◌∷◌}
 use native.Mathlib.Omega.{arith}
 use borrow.Author.Tests.{eqb-true, eqb-false}
 use lib.Dec.{eqb}
-use Rattle.inspector.specs.declared.verdict.Verdict.{Verdict}
+use Rattle.inspector.specs.Verdicts.{Verdict}
 use Rattle.inspector.specs.Verdicts.{Found, at, nowhere, lowest, given, blamed, answer_of, verdict_of, Rule, rules}
 use Rattle.inspector.proofs.Searches.{none_found}
 use Rattle.demands.specs.Rules.{Kept, BrokenAt, AllKept, none, kept, Blames, this, later}

@@ -6,7 +6,8 @@ use mathlib.Core.List.{List}
 use native.Mathlib.Omega.{arith}
 use borrow.Author.Tests.{lt-ltb}
 use lib.Dec.{eqb, ltb, leb}
-use Rattle.sheet.specs.Sheets.{Entry, entry_at, cell_in}
+use Rattle.sheet.specs.declared.Entry.{Entry}
+use Rattle.sheet.specs.Sheets.{entry_at, cell_in}
 use Rattle.inspector.specs.Areas.{area, meets}
 use Rattle.inspector.specs.Records.{ranged, cells_good}
 use Rattle.demands.proofs.Tests.{shows_and, shows_lt, shows_le, shows_eq, shows}

@@ -13,7 +13,7 @@ use Rattle.machine.specs.Outcomes.{Res, on, ◌>>=◌}
 use Rattle.machine.specs.States.{State}
 use Rattle.machine.specs.Memory.{read_of}
 use Rattle.machine.specs.Steps.{Ended, advanced_of, fetched_by, execute_of}
-use Rattle.machine.proofs.InCore.{in_core_on}
+use Rattle.machine.proofs.Sizes.{in_core_on}
 use Rattle.syllable.specs.Decoding.{decode_of}
 use Rattle.syllable.specs.Positions.{syllable_of, next_of}
 use Rattle.syllable.proofs.RoundTrip.{decode_proper}

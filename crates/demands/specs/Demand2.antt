@@ -1,11 +1,13 @@
 -- Demand 2: "Each syllable does what the paper says: same words, addresses, registers, stops. Core files round-trip both ways."
 -- That the calls give what the definitions of `machine` and `tape` say is in their contracts, by equations; here stands what the definitions themselves do.
 use Rattle.std.specs.Prelude.{ℕ, suc, ◌+◌, ◌*◌, ◌<◌, ◌≡◌, ◌≢◌, true, List, length}
+use Rattle.std.specs.declared.result.Result.{Result}
 use Rattle.word.specs.Core.{length_fits, words_fit}
 use Rattle.word.specs.Digits.{Below}
 use Rattle.machine.specs.declared.outcome.Registers.{Registers}
 use Rattle.machine.specs.declared.outcome.Answer.{Answer}
 use Rattle.machine.specs.declared.outcome.Ran.{Ran}
+use Rattle.machine.specs.declared.outcome.Refusal.{Refusal}
 use Rattle.machine.specs.States.{State, state_of}
 use Rattle.machine.specs.Steps.{refusal_of, step_of, answered}
 use Rattle.machine.specs.Runs.{ends_at, counted, run_from, run_of, ran_of}
@@ -17,8 +19,8 @@ pub record Demand2 : Type 0 where
   -- P1 to P10 of the paper: no machine that stops always, never moves or has one fixed answer
   pub sums : all_come trials ≡ true
   -- one answer for each argument: two that a call may give back, with the cores that they leave, are equal
-  pub step_sole : (core : List ℕ) (g : Registers) {a a' : Answer} {core₁ core₂ : List ℕ} → answered a core₁ ≡ step_of core g → answered a' core₂ ≡ step_of core g → (a ≡ a') × (core₁ ≡ core₂)
-  pub run_sole : (core : List ℕ) (g : Registers) (budget : ℕ) {a a' : Ran} {core₁ core₂ : List ℕ} → ran_of a core₁ ≡ run_of core g budget → ran_of a' core₂ ≡ run_of core g budget → (a ≡ a') × (core₁ ≡ core₂)
+  pub step_sole : (core : List ℕ) (g : Registers) {r r' : Result Answer Refusal} {core₁ core₂ : List ℕ} → answered g r core₁ ≡ step_of core g → answered g r' core₂ ≡ step_of core g → (r ≡ r') × (core₁ ≡ core₂)
+  pub run_sole : (core : List ℕ) (g : Registers) (budget : ℕ) {r r' : Result Ran Refusal} {core₁ core₂ : List ℕ} → ran_of g r core₁ ≡ run_of core g budget → ran_of g r' core₂ ≡ run_of core g budget → (r ≡ r') × (core₁ ≡ core₂)
   -- a run is its steps, and the count is that of completed steps. Core and registers pass the checks; of a budget of 0, nothing is fetched
   pub run_none : (core : List ℕ) (g : Registers) → refusal_of core g ≡ 0 → run_of core g 0 ≡ ends_at 0 0 (state_of core g)
   -- of one more: a step that goes on, and then the run of the rest from what it left, with one more completed

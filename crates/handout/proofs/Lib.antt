@@ -1,4 +1,5 @@
 pub mod Numbers
+pub mod Handing
 pub mod Agree
 pub mod Parts
 pub mod OneAnswer

@@ -15,14 +15,6 @@ use Rattle.word.specs.Choices.{if◌then◌otherwise◌}
 use Rattle.word.specs.Addresses.{cell_address}
 
 module _ (core : List ℕ) (r cell : ℕ) where
-  pub number_length : length_fits core ≡ false → 1 ≡ hand_out_number core r cell
-  unfolding hand_out_number if◌then◌otherwise◌
-  number_length l = rw l
-
-  pub number_words : length_fits core ≡ true → words_fit core ≡ false → 2 ≡ hand_out_number core r cell
-  unfolding hand_out_number if◌then◌otherwise◌
-  number_words l w = rw (l, w)
-
   pub number_r : length_fits core ≡ true → words_fit core ≡ true → 512 ≤ r → 3 ≡ hand_out_number core r cell
   unfolding hand_out_number if◌then◌otherwise◌
   number_r l w h = rw (l, w, le-ltb r 512 h)

@@ -3,7 +3,12 @@ use Rattle.std.specs.Prelude.{ℕ, ◌+◌, ◌*◌, ◌≡◌, Bool, ◌&&◌, 
 use Rattle.std.specs.Borrow.{Bor}
 use Rattle.word.specs.Choices.{if◌then◌otherwise◌}
 use Rattle.word.specs.Addresses.{cell_address}
-use Rattle.word.specs.Core.{length_fits, words_fit}
+use Rattle.std.specs.declared.result.Result.{Result}
+use Rattle.std.specs.declared.result.Result.TheVariants.{Ok, Err}
+use Rattle.word.specs.Core.{length_fits, words_fit, core_error_number}
+use Rattle.handout.specs.declared.Stretch.{Stretch}
+use Rattle.handout.specs.declared.HandOutError.{HandOutError}
+use Rattle.handout.specs.declared.HandOutError.TheVariants.{Core, Cell, Array}
 use Rattle.word.specs.Layout.{size_of, address_of, array_in}
 
 -- The word in an array cell.
@@ -30,6 +35,24 @@ stretch_count core r cell = if eqb (hand_out_number core r cell) 0 then size_of 
 
 unfoldable pub stretch_of : List ℕ → ℕ → ℕ → List ℕ
 stretch_of core r cell = take (stretch_count core r cell) (drop (stretch_start core r cell) core)
+
+abbrev pub hand_out_error_number : HandOutError → ℕ
+hand_out_error_number (Core e) = core_error_number e
+hand_out_error_number Cell = 3
+hand_out_error_number Array = 36
+
+-- The number, and where the words stand.
+pub record Handed : Type 0 where
+  pub number : ℕ
+  pub start : ℕ
+  pub count : ℕ
+
+abbrev pub handed_by : Result Stretch HandOutError → Handed
+handed_by (Ok s) = record { number = 0; start = s.start; count = s.count }
+handed_by (Err e) = record { number = hand_out_error_number e; start = 0; count = 0 }
+
+abbrev pub handed_of : List ℕ → ℕ → ℕ → Handed
+handed_of core r cell = record { number = hand_out_number core r cell; start = stretch_start core r cell; count = stretch_count core r cell }
 
 -- "that stretch of the core itself": not only those words, but where they stand, eight bytes a word.
 pub record HandedOut (core part : Bor (List ℕ)) (r cell : ℕ) : Type 0 where

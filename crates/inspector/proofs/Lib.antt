@@ -1,13 +1,11 @@
-pub mod Aims
 pub mod Answers
 pub mod Arrays
-pub mod Doings
 pub mod Examples
 pub mod Goings
 pub mod OneAnswer
 pub mod Paints
+pub mod Readings
 pub mod Records
+pub mod Finds
 pub mod Searches
 pub mod Stacks
-pub mod Syllables
-pub mod Views

@@ -1,111 +1,128 @@
 -- The cells' kinds, written from the last record to the first: the first record of a cell wins.
 use Prim.Native.Nat.{ℕ, suc, ◌+◌, ◌-◌, ◌≤◌, ◌<◌}
-use mathlib.Core.Path.{◌≡◌, refl, sym, ◌∙◌, ap, subst}
+use mathlib.Core.Path.{◌≡◌, refl, sym, ◌∙◌, ap}
 use mathlib.Core.Bool.{Bool, true, false, ◌&&◌}
 use mathlib.Core.List.{List}
 use native.Mathlib.Omega.{arith}
-use borrow.Author.Tests.{lt-ltb, le-ltb, le-leb, ltb-true, ltb-false, leb-true, eqb-true, eqb-false}
+use borrow.Author.Rules.{rules}
+use borrow.Author.Tests.{leb-true, leb-false, ltb-true, ltb-false}
+use borrow.Rule.Slice.PartMut.{put_mid}
 use lib.Dec.{ltb, leb, eqb}
-use lib.ListN.{length, get_or, set, replicate, length-set, length-replicate, get_or-replicate}
-use lib.Seq.{get_or-set_same, get_or-set_other}
+use lib.ListN.{length, get_or, replicate, length-replicate, get_or-replicate, get_or-eq_default}
+use Rattle.std.proofs.lemmas.List.{places}
+use Rattle.inspector.specs.declared.segments.Kind.{Kind}
+use Rattle.inspector.specs.declared.segments.Kind.TheVariants.{Closed, Number as NumberCell, Array}
 use Rattle.sheet.specs.Sheets.{entry_at, entries, cell_in, cell_of}
-use Rattle.inspector.specs.ForCode.Forms.{painted, Painted, Cells}
-use Rattle.word.specs.Choices.{if◌then◌otherwise◌}
+use Rattle.inspector.specs.ForCode.Forms.{kind_told, Kinds}
 
-abbrev chosen : ℕ → ℕ → Bool → ℕ
-chosen kind old b = if b then kind otherwise old
+-- A cell's kind, by the number of it.
+pub is_number : (k : ℕ) → NumberCell ≡ kind_told k → eqb k 3 ≡ true
+unfolding kind_told
+is_number k e = by (eqb k 3) (eqb k 4) e
+  where
+    by : (s t : Bool) → NumberCell ≡ elim s [ true ↦ NumberCell | false ↦ elim t [ true ↦ Array | false ↦ Closed ] ] → s ≡ true
+    by true t e = refl
+    by false true e = cc
+    by false false e = cc
 
--- The choice of `cell_in`, which recurses and so spells it out.
-spelled : (kind old : ℕ) (b : Bool) → chosen kind old b ≡ elim b [ true ↦ kind | false ↦ old ]
-unfolding if◌then◌otherwise◌
-spelled kind old true = refl
-spelled kind old false = refl
+pub is_array : (k : ℕ) → Array ≡ kind_told k → (eqb k 3 ≡ false) × (eqb k 4 ≡ true)
+unfolding kind_told
+is_array k e = by (eqb k 3) (eqb k 4) e
+  where
+    by : (s t : Bool) → Array ≡ elim s [ true ↦ NumberCell | false ↦ elim t [ true ↦ Array | false ↦ Closed ] ] → (s ≡ false) × (t ≡ true)
+    by true t e = cc
+    by false true e = (refl, refl)
+    by false false e = cc
 
--- Cell c is none of the first 0 cells from a on.
-none_in : (a c : ℕ) (b : Bool) → leb a c ≡ b → (b && ltb c (a + 0)) ≡ false
-none_in a c true e = le-ltb c (a + 0) (omega (arith, leb-true a c e))
-none_in a c false e = refl
+pub is_closed : (k : ℕ) → Closed ≡ kind_told k → (eqb k 3 ≡ false) × (eqb k 4 ≡ false)
+unfolding kind_told
+is_closed k e = by (eqb k 3) (eqb k 4) e
+  where
+    by : (s t : Bool) → Closed ≡ elim s [ true ↦ NumberCell | false ↦ elim t [ true ↦ Array | false ↦ Closed ] ] → (s ≡ false) × (t ≡ false)
+    by true t e = cc
+    by false true e = cc
+    by false false e = (refl, refl)
 
-pub paint_none : (a kind : ℕ) (cells : List ℕ) → length cells ≡ 1024 → Painted a 0 kind cells cells
-unfolding if◌then◌otherwise◌
-paint_none a kind cells l =
-    record { sized = l; paint = λ c h. sym (ap (chosen kind (get_or cells c 0)) (none_in a c (leb a c) refl)) }
+pub not_number : (k : ℕ) {kind : Kind} → kind ≡ kind_told k → (kind ≡ NumberCell → ⊥) → false ≡ eqb k 3
+unfolding kind_told
+not_number k {kind} e n = by (eqb k 3) refl
+  where
+    by : (s : Bool) → eqb k 3 ≡ s → false ≡ s
+    by true f = absurd (n (e ∙ ap (λ (s : Bool). elim s [ true ↦ NumberCell | false ↦ elim (eqb k 4) [ true ↦ Array | false ↦ Closed ] ]) f))
+    by false f = refl
 
--- Another cell than the next one is among one more as it was among those.
-other_in : (m c : ℕ) → (c ≡ m → ⊥) → (b : Bool) → ltb c m ≡ b → ltb c (m + 1) ≡ b
-other_in m c n true e = lt-ltb c (m + 1) (omega (arith, ltb-true c m e))
-other_in m c n false e = le-ltb c (m + 1) (omega (arith, ltb-false c m e, n))
-
--- The next cell is among one more.
-next_in : (a j c : ℕ) → c ≡ a + j → (leb a c && ltb c (a + (j + 1))) ≡ true
-next_in a j c e =
-    let l : leb a c ≡ true = le-leb a c (omega arith) in
-    let r : ltb c (a + (j + 1)) ≡ true = lt-ltb c (a + (j + 1)) (omega arith) in
-    ap (λ (b : Bool). b && ltb c (a + (j + 1))) l ∙ r
-
-paint_at : (a j kind old c : ℕ) (cells : List ℕ) → length cells ≡ 1024 → c < 1024 → get_or cells c 0 ≡ painted a j kind old c →
-    (b : Bool) → eqb c (a + j) ≡ b → get_or (set cells (a + j) kind) c 0 ≡ painted a (j + 1) kind old c
-unfolding if◌then◌otherwise◌
-paint_at a j kind old c cells l h e true t =
-    let k : c ≡ a + j = eqb-true c (a + j) t in
-    ap (λ (m : ℕ). get_or (set cells m kind) c 0) (sym k) ∙ get_or-set_same cells c kind 0 (omega arith) ∙ sym (ap (chosen kind old) (next_in a j c k))
-paint_at a j kind old c cells l h e false t =
-    let n : c ≡ a + j → ⊥ = eqb-false c (a + j) t in
-    let m : a + j + 1 ≡ a + (j + 1) = omega arith in
-    let s : ltb c (a + (j + 1)) ≡ ltb c (a + j) = ap (ltb c) (sym m) ∙ other_in (a + j) c n (ltb c (a + j)) refl in
-    get_or-set_other cells (a + j) c kind 0 n ∙ e ∙ ap (λ (b : Bool). chosen kind old (leb a c && b)) (sym s)
-
-pub paint_more : {a j kind : ℕ} {cells old new : List ℕ} → new ≡ set cells (a + j) kind → Painted a j kind old cells → Painted a (j + 1) kind old new
-paint_more {a} {j} {kind} {cells} {old} s p =
-    record {
-      sized = ap length s ∙ length-set cells (a + j) kind ∙ p.sized;
-      paint = λ c h.
-          ap (λ (m : List ℕ). get_or m c 0) s ∙ paint_at a j kind (get_or old c 0) c cells p.sized h (p.paint c h) (eqb c (a + j)) refl;
-    }
-
-pub paint_all : {a j n kind : ℕ} {cells old : List ℕ} → j ≤ n → n ≤ j → Painted a j kind old cells → Painted a n kind old cells
-paint_all {a} {j} {n} {kind} {cells} {old} h l p =
-    let m : j ≡ n = omega arith in
-    subst (λ (x : ℕ). Painted a x kind old cells) m p
+-- A cell after n of them from a on were given a kind.
+painted : (kinds : List Kind) (a n : ℕ) (k : Kind) (c : ℕ) → a + n ≤ length kinds → (s t : Bool) → leb a c ≡ s → ltb c (a + n) ≡ t →
+    get_or (put_mid a n kinds (replicate n k)) c Closed ≡ elim (s && t) [ true ↦ k | false ↦ get_or kinds c Closed ]
+painted kinds a n k c l true true e f =
+    let p : a ≤ c = leb-true a c e in
+    let q : c < a + n = ltb-true c (a + n) f in
+    search (rules, places)
+painted kinds a n k c l true false e f =
+    let p : a ≤ c = leb-true a c e in
+    let q : a + n ≤ c = ltb-false c (a + n) f in
+    search (rules, places)
+painted kinds a n k c l false t e f =
+    let p : c < a = leb-false a c e in
+    search (rules, places)
 
 -- The cells as the records from i on name them.
-pub record Filled (cells sheet : List ℕ) (i : ℕ) : Type 0 where
-  pub sized : length cells ≡ 1024
-  pub filled : (c : ℕ) → c < 1024 → get_or cells c 0 ≡ cell_in sheet (entries sheet - i) i c
+pub record Filled (kinds : List Kind) (sheet : List ℕ) (i : ℕ) : Type 0 where
+  pub sized : length kinds ≡ 1024
+  pub filled : (c : ℕ) → get_or kinds c Closed ≡ kind_told (cell_in sheet (entries sheet - i) i c)
 
-pub filled_none : (cells sheet : List ℕ) (i : ℕ) → i ≡ entries sheet → cells ≡ replicate 1024 0 → Filled cells sheet i
-filled_none cells sheet i e z =
-    let k : entries sheet - i ≡ 0 = omega arith in
-    record {
-      sized = ap length z ∙ length-replicate {A = ℕ} 1024 0;
-      filled = λ c h. ap (λ (l : List ℕ). get_or l c 0) z ∙ get_or-replicate {A = ℕ} 1024 c 0 0 h ∙ sym (ap (λ (n : ℕ). cell_in sheet n i c) k);
-    }
-
-pub filled_more : (cells new sheet : List ℕ) (i a n kind : ℕ) → 0 < i → i ≤ entries sheet →
-    a ≡ (entry_at sheet (i - 1)).first → n ≡ (entry_at sheet (i - 1)).count → kind ≡ (entry_at sheet (i - 1)).kind →
-    Painted a n kind cells new → Filled cells sheet i → Filled new sheet (i - 1)
-filled_more cells new sheet i a n kind h l ea en ek e f =
-    record { sized = e.sized; filled = λ c b. e.paint c b ∙ named c ∙ under c b ∙ counted c }
+closed : (c : ℕ) → get_or (replicate 1024 Closed) c Closed ≡ Closed
+closed c = by (ltb c 1024) refl
   where
-    test : ℕ → Bool
-    test c = leb (entry_at sheet (i - 1)).first c && ltb c ((entry_at sheet (i - 1)).first + (entry_at sheet (i - 1)).count)
+    by : (b : Bool) → ltb c 1024 ≡ b → get_or (replicate 1024 Closed) c Closed ≡ Closed
+    by true e = get_or-replicate 1024 c Closed Closed (ltb-true c 1024 e)
+    by false e =
+        let l : length (replicate 1024 Closed) ≤ c = omega (arith, ltb-false c 1024 e, length-replicate {A = Kind} 1024 Closed) in
+        get_or-eq_default (replicate 1024 Closed) Closed l
 
-    named : (c : ℕ) → painted a n kind (get_or cells c 0) c ≡ chosen (entry_at sheet (i - 1)).kind (get_or cells c 0) (test c)
-    named c = rw (ea, en, ek)
+pub filled_none : (kinds : List Kind) (sheet : List ℕ) (i : ℕ) → i ≡ entries sheet → kinds ≡ replicate 1024 Closed → Filled kinds sheet i
+unfolding kind_told
+filled_none kinds sheet i e z =
+    let k : entries sheet - i ≡ 0 = omega arith in
+    record { sized = ap length z ∙ length-replicate 1024 Closed; filled = λ c. ap (λ (l : List Kind). get_or l c Closed) z ∙ closed c ∙ sym (ap (λ (n : ℕ). kind_told (cell_in sheet n i c)) k) }
 
-    under : (c : ℕ) → c < 1024 → chosen (entry_at sheet (i - 1)).kind (get_or cells c 0) (test c) ≡ cell_in sheet (suc (entries sheet - i)) (i - 1) c
-    under c b =
-        let k : i ≡ suc (i - 1) = omega arith in
-        ap (λ (x : ℕ). chosen (entry_at sheet (i - 1)).kind x (test c)) (f.filled c b ∙ ap (λ (m : ℕ). cell_in sheet (entries sheet - i) m c) k)
-        ∙ spelled (entry_at sheet (i - 1)).kind _ (test c)
+module _ (kinds ys : List Kind) (sheet : List ℕ) (i a n k q : ℕ) (kind : Kind) (h : 0 < i) (l : i ≤ entries sheet)
+    (ea : a ≡ (entry_at sheet (i - 1)).first) (en : n ≡ (entry_at sheet (i - 1)).count) (ek : kind ≡ kind_told (entry_at sheet (i - 1)).kind) (b : a + n ≤ 1024)
+    (s : ys ≡ replicate q kind) (eq : q ≡ n) (er : k ≡ n) (f : Filled kinds sheet i) where
+  chosen : (c : ℕ) (t : Bool) → elim t [ true ↦ kind | false ↦ get_or kinds c Closed ] ≡ kind_told (elim t [ true ↦ (entry_at sheet (i - 1)).kind | false ↦ cell_in sheet (entries sheet - i) (suc (i - 1)) c ])
+  chosen c true = ek
+  chosen c false =
+      let k : i ≡ suc (i - 1) = omega arith in
+      f.filled c ∙ ap (λ (m : ℕ). kind_told (cell_in sheet (entries sheet - i) m c)) k
 
-    counted : (c : ℕ) → cell_in sheet (suc (entries sheet - i)) (i - 1) c ≡ cell_in sheet (entries sheet - (i - 1)) (i - 1) c
-    counted c =
-        let k : suc (entries sheet - i) ≡ entries sheet - (i - 1) = omega arith in
-        ap (λ (m : ℕ). cell_in sheet m (i - 1) c) k
+  named : (c : ℕ) → kind_told (cell_in sheet (suc (entries sheet - i)) (i - 1) c) ≡ kind_told (cell_in sheet (entries sheet - (i - 1)) (i - 1) c)
+  named c =
+      let k : suc (entries sheet - i) ≡ entries sheet - (i - 1) = omega arith in
+      ap (λ (m : ℕ). kind_told (cell_in sheet m (i - 1) c)) k
 
-pub filled_all : (cells sheet : List ℕ) (i : ℕ) → 3 ≤ i → i ≤ 3 → Filled cells sheet i → Cells cells sheet
+  tested : (c : ℕ) → (leb a c && ltb c (a + n)) ≡ (leb (entry_at sheet (i - 1)).first c && ltb c ((entry_at sheet (i - 1)).first + (entry_at sheet (i - 1)).count))
+  tested c = rw (ea, en)
+
+  room : length (put_mid a n kinds (replicate n kind)) ≡ length kinds
+  room =
+      let c : a + n ≤ length kinds = omega (arith, f.sized) in
+      search (rules, places)
+
+  put : put_mid a k kinds ys ≡ put_mid a n kinds (replicate n kind)
+  put = rw (s, eq, er)
+
+  pub filled_more : Filled (put_mid a k kinds ys) sheet (i - 1)
+  filled_more =
+      record {
+        sized = ap length put ∙ room ∙ f.sized;
+        filled = λ c.
+            ap (λ (m : List Kind). get_or m c Closed) put
+            ∙ painted kinds a n kind c (omega (arith, f.sized)) (leb a c) (ltb c (a + n)) refl refl
+            ∙ chosen c (leb a c && ltb c (a + n))
+            ∙ ap (λ (t : Bool). kind_told (elim t [ true ↦ (entry_at sheet (i - 1)).kind | false ↦ cell_in sheet (entries sheet - i) (suc (i - 1)) c ])) (tested c)
+            ∙ named c;
+      }
+
+pub filled_all : (kinds : List Kind) (sheet : List ℕ) (i : ℕ) → i ≡ 3 → Filled kinds sheet i → Kinds kinds sheet
 unfolding cell_of
-filled_all cells sheet i h l f =
-    let k : i ≡ 3 = omega arith in
-    record { sized = f.sized; cell = λ c b. f.filled c b ∙ ap (λ (m : ℕ). cell_in sheet (entries sheet - m) m c) k }
+filled_all kinds sheet i e f = record { kind = λ c. f.filled c ∙ ap (λ (m : ℕ). kind_told (cell_in sheet (entries sheet - m) m c)) e }

@@ -1,7 +1,7 @@
 -- Rule 31 by the record's place, and what the three first records say once none is bad.
 use Prim.Native.Nat.{ℕ, suc, ◌+◌, ◌-◌, ◌≤◌, ◌<◌}
-use mathlib.Core.Path.{◌≡◌, sym, ◌∙◌, ap}
-use mathlib.Core.Bool.{Bool, true, false, not}
+use mathlib.Core.Path.{◌≡◌, ◌∙◌}
+use mathlib.Core.Bool.{Bool}
 use mathlib.Core.List.{List}
 use native.Mathlib.Omega.{arith}
 use Rattle.sheet.specs.Sheets.{entry_at, table_of}
@@ -24,16 +24,10 @@ by_suc sheet j i e =
     let l : suc (suc (suc j)) ≡ 3 + j = omega arith in
     rw (e, l)
 
-pub good_at : (sheet : List ℕ) {i j : ℕ} {r : Bool} → i ≡ j → r ≡ record_good sheet j → r ≡ record_good sheet i
-good_at sheet h e = e ∙ sym (ap (record_good sheet) h)
-
-pub good_more : (sheet : List ℕ) (i : ℕ) {r : Bool} → 2 < i → r ≡ cells_good (table_of sheet) (floor_of sheet (i - 3)) (entry_at sheet i) → r ≡ record_good sheet i
-good_more sheet i h e =
+pub good_suc : (sheet : List ℕ) (i : ℕ) → 3 ≤ i → cells_good (table_of sheet) (floor_of sheet (i - 3)) (entry_at sheet i) ≡ record_good sheet i
+good_suc sheet i h =
     let k : i ≡ suc (suc (suc (i - 3))) = omega arith in
-    e ∙ by_suc sheet (i - 3) i k
+    by_suc sheet (i - 3) i k
 
-pub not_bad : {r g : Bool} → r ≡ g → r ≡ true → not g ≡ false
-not_bad e t = ap not (sym e ∙ t)
-
-pub is_bad : {r g : Bool} → r ≡ g → r ≡ false → not g ≡ true
-is_bad e t = ap not (sym e ∙ t)
+pub good_more : (sheet : List ℕ) (i : ℕ) {r : Bool} → 3 ≤ i → r ≡ cells_good (table_of sheet) (floor_of sheet (i - 3)) (entry_at sheet i) → r ≡ record_good sheet i
+good_more sheet i h e = e ∙ good_suc sheet i h

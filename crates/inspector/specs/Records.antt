@@ -1,6 +1,7 @@
 -- Rules 30 and 31: the sheet's length and its records.
 use Rattle.std.specs.Prelude.{ℕ, zero, suc, ◌+◌, ◌%◌, Bool, ◌&&◌, ◌||◌, List, eqb, ltb, leb, length}
-use Rattle.sheet.specs.Sheets.{Entry, entry_at, entries, table_of}
+use Rattle.sheet.specs.declared.Entry.{Entry}
+use Rattle.sheet.specs.Sheets.{entry_at, entries, table_of}
 
 -- "30, length not 6 times 3 to 1,027."
 unfoldable pub sheet_fits : List ℕ → Bool

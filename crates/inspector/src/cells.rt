@@ -1,154 +1,61 @@
-// The cells by their kinds, and rule 33.
-ghost use Rattle.std.specs.Prelude.{◌≡◌, not, ◌+◌, ◌*◌, ◌≤◌, length, get_or, set, replicate};
-ghost use Rattle.sheet.specs.Sheets.{entries, table_of, cell_of};
-ghost use Rattle.inspector.specs.Areas.{area, code_area, stack_area, table_area, meets as meets_of, clear_of};
-ghost use Rattle.inspector.specs.Cells.{plain_words, array_fits, unfit as unfit_of};
+// Rule 33: the named cells.
+ghost use Rattle.std.specs.Prelude.{◌≡◌, ◌+◌};
+ghost use Rattle.sheet.specs.Sheets.{table_of};
+ghost use Rattle.inspector.specs.Cells.{plain_words, array_fits, unfit};
 ghost use Rattle.inspector.specs.Verdicts.{lowest};
-ghost use Rattle.inspector.specs.ForCode.Forms.{found_of, Painted, Cells};
+ghost use Rattle.inspector.specs.ForCode.Forms.{found_of};
 
-use crate::areas::meets;
-use crate::sheets::{count, first, kind};
-use crate::tests::{both, negated};
-use crate::verdict::Find;
-
-// The word at an address, and 0 outside core.
-pub fn word_at(core: &[u64], at: usize) -> u64
-    ensures { result ≡ get_or core.now at 0 }
-{
-    if at < core.len() {
-        return core[at];
-    }
-    0
-}
-
-// Writes a kind to a cell that there is.
-fn put(cells: &mut [u8], c: usize, kind: u8)
-    ensures { cells.new ≡ set cells.old c kind }
-{
-    if c < cells.len() {
-        cells[c] = kind;
-    }
-}
-
-// Writes a kind to n cells from a on.
-fn paint(cells: &mut [u8], a: u16, n: u16, kind: u8)
-    requires { length cells.old ≡ 1024 }
-    ensures { Painted a n kind cells.old cells.new }
-{
-    let mut j = 0u16;
-    while j < n {
-        put(cells, a as usize + j as usize, kind);
-        j += 1;
-    }
-}
-
-// The kind of every cell, from the last record to the first.
-pub fn fill(cells: &mut [u8], sheet: &[u8])
-    requires { (3 ≤ entries sheet.now) × (entries sheet.now ≤ 1027) × (cells.old ≡ replicate 1024 0) }
-    ensures { Cells cells.new sheet.now }
-{
-    let mut i = (sheet.len() / 6) as u16;
-    while 3 < i {
-        i -= 1;
-        let a = first(sheet, i);
-        let n = count(sheet, i);
-        let k = kind(sheet, i);
-        paint(cells, a, n, k);
-    }
-}
+use crate::areas::{Area, table_area};
+use crate::segments::{Kind, Segment};
 
 // All n words from a on have their flag off.
 fn plain_words(core: &[u64], a: u16, n: u16) -> bool
     ensures { result ≡ plain_words core.now a n }
 {
-    let mut j = 0u16;
-    while j < n {
-        let w = word_at(core, a as usize + j as usize);
-        if word::flag(w) {
+    // One by one, since a word outside core reads as 0: there is no slice to take.
+    for j in 0..n {
+        if word::flag(core.get(a as usize + j as usize).copied().unwrap_or(0)) {
             return false;
         }
-        j += 1;
     }
     true
 }
 
-// The n words from a on meet no code word.
-fn clear_of_code(sheet: &[u8], a: u16, n: u16) -> bool
-    ensures { result ≡ not (meets_of (area a n) (code_area sheet.now)) }
-{
-    let code = first(sheet, 0);
-    let words = count(sheet, 0);
-    negated(meets(a as u32, n, code as u32, words))
-}
-
-// The n words from a on meet no word of the stack's room.
-fn clear_of_stack(sheet: &[u8], a: u16, n: u16) -> bool
-    ensures { result ≡ not (meets_of (area a n) (stack_area sheet.now)) }
-{
-    let s = first(sheet, 1);
-    let room = count(sheet, 1);
-    negated(meets(a as u32, n, s as u32 + 1, room))
-}
-
-// The n words from a on meet no cell of the table.
-fn clear_of_table(sheet: &[u8], a: u16, n: u16) -> bool
-    ensures { result ≡ not (meets_of (area a n) (table_area sheet.now)) }
-{
-    let r = first(sheet, 2);
-    let table = count(sheet, 2);
-    negated(meets(a as u32, n, 64 * r as u32, table))
-}
-
-// The n words from a on meet none of the three stretches.
-fn clear(sheet: &[u8], a: u16, n: u16) -> bool
-    ensures { result ≡ clear_of sheet.now (area a n) }
-{
-    let code = clear_of_code(sheet, a, n);
-    let stack = clear_of_stack(sheet, a, n);
-    let table = clear_of_table(sheet, a, n);
-    both(both(code, stack), table)
-}
-
+#[tactic(auto, unfolding(crate::specs::Cells::array_fits))]
 fn array_fits(core: &[u64], sheet: &[u8], d: u64) -> bool
     ensures { result ≡ array_fits core.now sheet.now d }
 {
     let a = word::address(d);
     let n = word::size(d);
-    if both(word::array_in(core.len(), d), clear(sheet, a, n)) {
-        return plain_words(core, a, n);
-    }
-    false
+    let area = Area {
+        start: a as u32,
+        count: n,
+    };
+    word::array_in(core.len(), d) && area.clear_of(sheet) && plain_words(core, a, n)
 }
 
 // A named cell that does not hold what its record says.
-fn unfit_at(core: &[u64], sheet: &[u8], kind: u8, c: u16) -> bool
-    requires { kind ≡ cell_of sheet.now c }
-    ensures { result ≡ unfit_of core.now sheet.now c }
+#[tactic(auto, using(crate::proofs::Arrays::unfit_number, crate::proofs::Arrays::unfit_array, crate::proofs::Arrays::unfit_closed))]
+fn unfit_at(segment: &Segment, c: u16) -> bool
+    ensures { result ≡ unfit segment.now.core.now segment.now.sheet.now c }
 {
-    let r = first(sheet, 2);
-    let w = word_at(core, 64 * r as usize + c as usize);
-    if kind == 3 {
-        return word::flag(w);
+    let start = table_area(segment.sheet).start;
+    let w = segment
+        .core
+        .get(start as usize + c as usize)
+        .copied()
+        .unwrap_or(0);
+    match segment.kind(c) {
+        Kind::Number => word::flag(w),
+        Kind::Array => !array_fits(segment.core, segment.sheet, w),
+        Kind::Closed => false,
     }
-    if kind == 4 {
-        return negated(array_fits(core, sheet, w));
-    }
-    false
 }
 
 // "33, lowest named cell unfit"
-pub fn unfit(core: &[u64], sheet: &[u8], cells: &[u8]) -> Find
-    requires { (table_of sheet.now ≤ 1024) × Cells cells.now sheet.now }
-    ensures { found_of result ≡ lowest (unfit_of core.now sheet.now) (table_of sheet.now) 0 }
+pub fn unfit(segment: &Segment) -> Option<u16>
+    ensures { found_of result ≡ lowest (unfit segment.now.core.now segment.now.sheet.now) (table_of segment.now.sheet.now) 0 }
 {
-    let n = count(sheet, 2);
-    let mut c = 0u16;
-    while c < n {
-        let at = c as usize;
-        if unfit_at(core, sheet, cells[at], c) {
-            return Find::At(c as u64);
-        }
-        c += 1;
-    }
-    Find::Nowhere
+    let n = table_area(segment.sheet).count;
+    (0..n).find(|&c| unfit_at(segment, c))
 }

@@ -3,115 +3,63 @@
 
 mod areas;
 mod cells;
-mod effects;
 mod scan;
+mod segments;
 mod shapes;
 mod sheets;
 mod targets;
-mod tests;
 mod verdict;
 
 ghost use Rattle.std.specs.Prelude.{◌≡◌, true};
 ghost use Rattle.inspector.specs.Records.{sheet_fits};
-ghost use Rattle.inspector.specs.Verdicts.{verdict_of};
-ghost use Rattle.inspector.specs.ForCode.Forms.{Cells, SheetRanged, flow_of, cells_on_of, records_of};
+ghost use Rattle.inspector.specs.Verdicts.{verdict_by, verdict_of};
+ghost use Rattle.inspector.specs.ForCode.Forms.{flow_of, records_of};
 
 use areas::astray;
-use cells::{fill, unfit};
+use cells::unfit;
+use scan::scan;
+use segments::Segment;
 use sheets::{bad_record, sheet_fits};
-use targets::target;
-use verdict::Find;
-pub use verdict::Verdict;
+pub use verdict::Broken;
 
 // The rules 34 and 35.
-fn flow(core: &[u64], sheet: &[u8], cells: &[u8]) -> Verdict
-    requires { SheetRanged sheet.now × Cells cells.now sheet.now }
-    ensures { result ≡ flow_of core.now sheet.now }
+fn flow(segment: &Segment) -> Result<(), Broken>
+    ensures { verdict_by result ≡ flow_of segment.now.core.now segment.now.sheet.now }
 {
-    let table = syllable::numbers();
-    let mut items = [0u16; 1024];
-    let mut marks = [0u16; 4096];
-    match scan::scan(core, sheet, &table, cells, &mut items, &mut marks) {
-        Find::At(p) => {
-            return Verdict {
-                number: 34,
-                place: p,
-            };
-        }
-        Find::Nowhere => {}
+    let scanned = scan(segment).map_err(|at| Broken::Syllable(at as u64))?;
+    if let Some(at) = scanned.target() {
+        return Err(Broken::Target(at as u64));
     }
-    match target(core, sheet, &table, &marks) {
-        Find::At(p) => Verdict {
-            number: 35,
-            place: p,
-        },
-        Find::Nowhere => Verdict {
-            number: 0,
-            place: 0,
-        },
-    }
-}
-
-// The rules from 33 on.
-fn inside(core: &[u64], sheet: &[u8]) -> Verdict
-    requires { SheetRanged sheet.now }
-    ensures { result ≡ cells_on_of core.now sheet.now }
-{
-    let mut cells = [0u8; 1024];
-    fill(&mut cells, sheet);
-    match unfit(core, sheet, &cells) {
-        Find::At(p) => Verdict {
-            number: 33,
-            place: p,
-        },
-        Find::Nowhere => flow(core, sheet, &cells),
-    }
+    Ok(())
 }
 
 // The rules from 31 on.
-fn examined(core: &[u64], sheet: &[u8]) -> Verdict
+#[tactic(auto, using(crate::proofs::Answers::fits_most, crate::proofs::Answers::ranges))]
+fn examined(core: &[u64], sheet: &[u8]) -> Result<(), Broken>
     requires { sheet_fits sheet.now ≡ true }
-    ensures { result ≡ records_of core.now sheet.now }
+    ensures { verdict_by result ≡ records_of core.now sheet.now }
 {
-    match bad_record(sheet) {
-        Find::At(p) => {
-            return Verdict {
-                number: 31,
-                place: p,
-            };
-        }
-        Find::Nowhere => {}
+    if let Some(at) = bad_record(sheet) {
+        return Err(Broken::Record(at as u64));
     }
-    match astray(core, sheet) {
-        Find::At(p) => Verdict {
-            number: 32,
-            place: p,
-        },
-        Find::Nowhere => inside(core, sheet),
+    if let Some(at) = astray(core, sheet) {
+        return Err(Broken::Area(at as u64));
     }
+    let segment = Segment::new(core, sheet);
+    if let Some(at) = unfit(&segment) {
+        return Err(Broken::Cell(at as u64));
+    }
+    flow(&segment)
 }
 
-// The first rule that the core or the sheet breaks, in the printed order, at its lowest place; 0 if they break none.
-pub fn inspect(core: &[u64], sheet: &[u8]) -> Verdict
-    ensures { result ≡ verdict_of core.now sheet.now }
+// The first rule that the core or the sheet breaks, in the printed order, at its lowest place.
+#[tactic(auto, using(crate::proofs::Answers::given_back, crate::proofs::Answers::core_refused, crate::proofs::Answers::sheet_refused, crate::proofs::Answers::sheet_passed))]
+pub fn inspect(core: &[u64], sheet: &[u8]) -> Result<(), Broken>
+    ensures { verdict_by result ≡ verdict_of core.now sheet.now }
 {
-    if word::length_fits(core) {
-        if word::words_fit(core) {
-            if sheet_fits(sheet) {
-                return examined(core, sheet);
-            }
-            return Verdict {
-                number: 30,
-                place: 0,
-            };
-        }
-        return Verdict {
-            number: 2,
-            place: 0,
-        };
+    word::check_core(core)?;
+    if !sheet_fits(sheet) {
+        return Err(Broken::Length);
     }
-    Verdict {
-        number: 1,
-        place: 0,
-    }
+    examined(core, sheet)
 }

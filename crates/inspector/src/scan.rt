@@ -1,136 +1,59 @@
 // Rule 34: the scan, one pass over the syllables.
-ghost use Rattle.std.specs.Prelude.{◌≡◌, List, ◌&&◌, not, ℕ, ◌+◌, ◌/◌, ◌%◌, ◌≤◌, ◌<◌, eqb, length, get_or};
+ghost use Rattle.std.specs.Prelude.{◌≡◌, ◌<◌, ◌+◌, ◌*◌, false, IfOk};
+ghost use Rattle.sheet.specs.Sheets.{code_words_of};
 ghost use Rattle.inspector.specs.Turns.{turn_of};
-ghost use Rattle.inspector.specs.Scan.{leaves, writable as writable_of, syllable_left, closes as closes_of};
-ghost use Rattle.inspector.specs.ForCode.Forms.{item_of, shape_of, Cells, Became, Mark, Ready, Scans};
-ghost use Rattle.syllable.specs.Decoding.{decode_of};
-ghost use Rattle.syllable.specs.Numbers.{operator_numbers, operator_number};
-ghost use Rattle.syllable.specs.Positions.{syllable_of};
-ghost use Rattle.syllable.specs.ForCode.Numbered.{syllable_numbered};
+ghost use Rattle.inspector.specs.Scan.{closes, breaks_at};
+ghost use Rattle.inspector.specs.Verdicts.{lowest};
+ghost use Rattle.inspector.specs.ForCode.Forms.{found_by, Before, Passed, Marked};
 
-use crate::cells::word_at;
-use crate::effects::effect;
-use crate::shapes::{Scanned, apply, below};
-use crate::sheets::{count, first};
-use crate::tests::{both, either, negated};
-use crate::verdict::Find;
-
-// A syllable by its operator number n and its number k.
-#[derive(Drop)]
-pub struct Numbered {
-    pub n: u8,
-    pub k: u16,
-}
-
-// The operator number of a syllable, from the table that is lent.
-fn number_of(table: &[u8], y: u16) -> u8
-    requires { table.now ≡ operator_numbers }
-    ensures { result ≡ operator_number (y % 4096) }
-{
-    let i = (y % 4096) as usize;
-    table[i]
-}
-
-// The i-th syllable of the code.
-pub fn read(core: &[u64], table: &[u8], code: u16, i: u16) -> Numbered
-    requires { table.now ≡ operator_numbers }
-    ensures small { result.k < 1024 }
-    ensures decoded { syllable_numbered result.n result.k ≡ decode_of (syllable_of (get_or core.now (code + i / 4) 0) (i % 4)) }
-{
-    let w = word_at(core, code as usize + (i / 4) as usize);
-    let y = syllable::syllable_at(w, (i % 4) as u8);
-    let n = number_of(table, y);
-    Numbered { n, k: y % 4096 / 4 }
-}
-
-// "at a place or a literal naming a number cell"
-fn writable(cells: &[u8], a: u16) -> bool
-    requires { length cells.now ≡ 1024 }
-    ensures { (sheet : List ℕ) → Cells cells.now sheet → result ≡ writable_of sheet (item_of a) }
-{
-    if a < 1024 {
-        let at = a as usize;
-        return cells[at] == 3;
-    }
-    negated(a == 1024)
-}
-
-// What a syllable makes of the shape.
-fn turn(items: &mut [u16], h: u16, room: u16, cells: &[u8], n: u8, k: u16) -> Scanned
-    requires { (room ≤ length items.old) × (length cells.now ≡ 1024) × (k < 1024) }
-    ensures { (sheet : List ℕ) → Cells cells.now sheet → Became room items.old items.new result (syllable_left sheet (syllable_numbered n k) (shape_of items.old h)) }
-{
-    let a = below(&items[..], h, 1);
-    let b = below(&items[..], h, 2);
-    let at = k as usize;
-    let cell = cells[at];
-    let ninth = cells[9];
-    let aim = writable(cells, a);
-    let e = effect(n, k, cell, aim, ninth == 3, h, a, b);
-    apply(items, h, room, e)
-}
-
-// The mark of a shape: 0 of an empty one, k + 1 of one with the literal k on top, 1,025 of the others.
-fn mark_of(items: &[u16], h: u16) -> u16
-    ensures { Mark (leaves (shape_of items.now h)) result }
-{
-    if h == 0 {
-        return 0;
-    }
-    let a = below(items, h, 1);
-    if a < 1024 {
-        return a + 1;
-    }
-    1025
-}
+use crate::segments::Segment;
+use crate::shapes::{Mark, Shape};
+use syllable::{Branch, Operator, Syllable};
 
 // "The last syllable is COM, BFW or BBW."
-fn closes(n: u8) -> bool
-    ensures { (k : ℕ) → result ≡ closes_of (turn_of (syllable_numbered n k)) }
+fn closes(y: Syllable) -> bool
+    ensures { result ≡ closes (turn_of y) }
 {
-    either(either(n == 30, n == 31), n == 36)
+    matches!(
+        y,
+        Syllable::Operator(Operator::Com | Operator::Branch(Branch::Bfw | Branch::Bbw))
+    )
 }
 
-// The last of so many syllables, and no closing one.
-fn unclosed(i: u16, words: u16, n: u8) -> bool
-    ensures { (k : ℕ) → result ≡ (eqb i words && not (closes_of (turn_of (syllable_numbered n k)))) }
+// Syllable i breaks the scan; where it does not, the shape becomes that before the next.
+#[tactic(auto, using(crate::proofs::Goings::breaks_none, crate::proofs::Goings::breaks_some, crate::proofs::Goings::goes_on))]
+fn breaks_at(segment: &Segment, shape: &mut Shape, i: u16) -> bool
+    requires { (i < 4 * code_words_of segment.now.sheet.now) × Before segment.now.core.now segment.now.sheet.now i shape.old }
+    ensures broken { result ≡ breaks_at segment.now.core.now segment.now.sheet.now i }
+    ensures next { result ≡ false → Before segment.now.core.now segment.now.sheet.now (i + 1) shape.new }
 {
-    both(i == words, negated(closes(n)))
+    let y = segment.syllable(i);
+    let last = i + 1 == segment.syllables();
+    shape.syllable_left(segment, y).is_none() || last && !closes(y)
 }
 
-// "34, first syllable breaking the scan." Where none breaks it, the shapes before all syllables are marked.
-pub fn scan(
-    core: &[u64],
-    sheet: &[u8],
-    table: &[u8],
-    cells: &[u8],
-    items: &mut [u16],
-    marks: &mut [u16],
-) -> Find
-    requires { Ready sheet.now table.now cells.now items.old marks.old }
-    ensures { Scans core.now sheet.now marks.new result }
+// The segment whose code the scan has passed, and the marks of the shapes before its syllables.
+#[derive(Drop)]
+pub struct Scanned<'a> {
+    pub segment: &'a Segment<'a>,
+    pub marks: [Mark; 4096],
+    ghost passed: { Passed segment.now.core.now segment.now.sheet.now (4 * code_words_of segment.now.sheet.now) },
+    ghost marked: { Marked marks segment.now.core.now segment.now.sheet.now (4 * code_words_of segment.now.sheet.now) },
+}
+
+// "34, first syllable breaking the scan."
+pub fn scan<'a>(segment: &'a Segment<'a>) -> Result<Scanned<'a>, u16>
+    ensures found { found_by result ≡ lowest (breaks_at segment.now.core.now segment.now.sheet.now) (4 * code_words_of segment.now.sheet.now) 0 }
+    ensures core { IfOk result (λ s. s.segment.now.core.now ≡ segment.now.core.now) }
+    ensures sheet { IfOk result (λ s. s.segment.now.sheet.now ≡ segment.now.sheet.now) }
 {
-    let code = first(sheet, 0);
-    let n = 4 * count(sheet, 0);
-    let room = count(sheet, 1);
-    let mut h = 0u16;
-    let mut i = 0u16;
-    while i < n {
-        let at = i as usize;
-        marks[at] = mark_of(&items[..], h);
-        let y = read(core, table, code, i);
-        match turn(items, h, room, cells, y.n, y.k) {
-            Scanned::Height(g) => {
-                h = g;
-            }
-            Scanned::Broken => {
-                return Find::At(i as u64);
-            }
+    let mut shape = Shape::new(segment.room());
+    let mut marks = [Mark::Empty; 4096];
+    for i in 0..segment.syllables() {
+        marks[i as usize] = shape.mark();
+        if breaks_at(segment, &mut shape, i) {
+            return Err(i);
         }
-        if unclosed(i + 1, n, y.n) {
-            return Find::At(i as u64);
-        }
-        i += 1;
     }
-    Find::Nowhere
+    Ok(Scanned { segment, marks })
 }

@@ -10,4 +10,5 @@ pub mod FitChecks
 pub mod FitSteps
 pub mod Running
 pub mod FitRuns
+pub mod Numbers
 pub mod StackLaws

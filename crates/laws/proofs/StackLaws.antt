@@ -14,8 +14,7 @@ use Rattle.machine.specs.States.{State, empty_a, fill_a, fill_b, with_s, store}
 use Rattle.machine.specs.Memory.{in_core, read_of}
 use Rattle.machine.specs.Stack.{stack_of, push_of, top_of, push_b_of, a_empty_of, a_full_of, b_full_of, both_full_of}
 use Rattle.machine.specs.Stores.{litc_of}
-use Rattle.machine.proofs.Sizes.{Gives, goes, stops, gives_if, gives_bind, given, slot_gives}
-use Rattle.machine.proofs.Placings.{gives}
+use Rattle.machine.proofs.Sizes.{Gives, goes, stops, gives_if, gives_bind, gives, given, slot_gives}
 
 -- A word that goes to S+1 of core stands above what core held up to S, and one that comes from S stood there.
 up : (core : List ℕ) (s w : ℕ) (rest : List ℕ) → s + 1 < length core → take (s + 1 + 1) (set core (s + 1) w) ++ rest ≡ take (s + 1) core ++ (w ∷ rest)

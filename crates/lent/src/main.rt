@@ -2,7 +2,6 @@
 #![tactic(auto)]
 
 mod moves;
-mod say;
 mod stretches;
 
 use std::io;

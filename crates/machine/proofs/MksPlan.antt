@@ -1,5 +1,5 @@
 -- MKS with all its tests first is MKS as the paper writes it.
-use mathlib.Core.Path.{◌≡◌, refl, sym, ◌∙◌, ap}
+use mathlib.Core.Path.{◌≡◌, refl, ◌∙◌}
 use mathlib.Core.Bool.{Bool, true, false, not, ◌&&◌}
 use mathlib.Core.List.{List}
 use Prim.Native.Nat.{ℕ, ◌+◌, ◌*◌}
@@ -47,28 +47,10 @@ module _ (core : List ℕ) (g : Registers) where
   long_three : (p q s : ℕ) → length (three p q s).core ≡ length core
   long_three p q s = length_put true s mark (two p q).core ∙ long_two p q
 
-  pub mks_plan_is : {twice : Bool} → twice ≡ (g.salf && not g.msff) → mks_plan twice core g ≡ mks_of (state_of core g)
+  pub mks_is : mks_of (state_of core g) ≡ mks_plan (g.salf && not g.msff) core g
   unfolding mks_plan mks_of piled_of marked_of
-  mks_plan_is h =
-      ap (λ (x : Bool). mks_plan x core g) h
-      ∙ sym
+  mks_is =
       (binds _ _ (push_b (state_of core g) refl)
       (λ p. binds _ _ (push_a (one p) (long_one p))
       (λ q. binds _ _ (pushes (two p q) mark (long_two p q))
       (λ s. binds _ _ (also_plan (three p q s) mark (long_three p q s)) (λ m. refl)))))
-
--- What the code's four writes leave.
-pub piles : (twice : Bool) (g : Registers) (p q s m mark : ℕ) (core c₁ c₂ c₃ c₄ : List ℕ)
-    → mark ≡ mscw_of g.r g.msff g.salf g.f
-    → c₁ ≡ put_of g.bfull p g.b core
-    → c₂ ≡ put_of g.afull q g.a c₁
-    → c₃ ≡ put_of true s mark c₂
-    → c₄ ≡ put_of twice m mark c₃
-    → c₄ ≡ piled_of twice g p q s m core
-unfolding piled_of
-piles twice g p q s m mark core c₁ c₂ c₃ c₄ h e₁ e₂ e₃ e₄ = rw (e₄, e₃, e₂, e₁, h)
-
-pub marked_is : (g : Registers) (s a b : ℕ) → a ≡ emptied g.afull g.a → b ≡ emptied g.bfull g.b
-    → ◌≡◌ {A = Registers} (record { a = a; afull = false; b = b; bfull = false; s = s; f = s; c = g.c; r = g.r; l = g.l; salf = g.salf; msff = true }) (marked_of g s)
-unfolding marked_of
-marked_is g s a b h k = rw (h, k)

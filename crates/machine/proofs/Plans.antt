@@ -6,14 +6,12 @@ use Prim.Native.Nat.{ℕ, ◌+◌, ◌*◌}
 use lib.ListN.{length}
 use Rattle.machine.specs.declared.outcome.Registers.{Registers}
 use Rattle.machine.specs.Outcomes.{Res, on, halt, ◌>>=◌}
-use Rattle.machine.specs.States.{State, set_a, set_b, set_s, set_f, with_f, empty_a, empty_b, state_of, store}
+use Rattle.machine.specs.States.{State, set_a, set_b, set_s, empty_a, empty_b, state_of, store}
 use Rattle.machine.specs.Memory.{in_core, store_of}
 use Rattle.machine.specs.Stack.{slot_of, push_of, push_a_of, push_b_of}
 use Rattle.word.specs.Choices.{if◌then◌otherwise◌}
-use Rattle.machine.specs.Calls.{mark_of}
 use Rattle.machine.specs.Marks.{also_of}
 use Rattle.machine.specs.ForCode.Pushes.{slot_if, in_core_if, emptied}
-use Rattle.word.specs.Layout.{mscw_of}
 use Rattle.machine.specs.ForCode.Answers.{put_of}
 
 -- m is the test o, and then the state S of what the test gives.
@@ -59,14 +57,6 @@ push_a_of_is false core g e = record { plan = refl }
 pub push_a : (st : State) {len : ℕ} → length st.core ≡ len
     → Planned (push_a_of st) (slot_if st.regs.afull len st.regs.s st.regs.r) (λ t. record { core = put_of st.regs.afull t st.regs.a st.core; regs = set_a (set_s st.regs t) false (emptied st.regs.afull st.regs.a) })
 push_a st e = push_a_of_is st.regs.afull st.core st.regs e
-
--- "argument off, push MSCW and F:=S"
-pub marks : (argument : Bool) (st : State) {len : ℕ} → length st.core ≡ len
-    → Planned (mark_of argument st) (slot_if (not argument) len st.regs.s st.regs.r)
-    (λ t. record { core = put_of (not argument) t (mscw_of st.regs.r st.regs.msff st.regs.salf st.regs.f) st.core; regs = set_f (set_s st.regs t) (if argument then st.regs.f otherwise t) })
-unfolding mark_of slot_if if◌then◌otherwise◌ ◌>>=◌
-marks true st e = record { plan = refl }
-marks false st e = changed (λ u. with_f u u.regs.s) (pushes st _ e)
 
 -- "if SALF on and MSFF off, write that MSCW also at 64R+7"
 also_of_is : (live : Bool) (o : Res ℕ) (st : State) (m w : ℕ)

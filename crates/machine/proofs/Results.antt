@@ -1,84 +1,47 @@
--- Numbers taken from operands and given back as operands: what the answers of `word` say of the definitions.
+-- Numbers given back as operands: a result that an i64 does not hold is past 39 bits.
 use Prim.Native.Nat.{ℕ, ◌^◌, ◌≤◌, ◌<◌}
-use mathlib.Core.Path.{◌≡◌, refl, sym, ◌∙◌, ap, subst}
-use mathlib.Core.Bool.{Bool, true, false}
+use mathlib.Core.Path.{◌≡◌, refl, ◌∙◌, ap}
 use native.Mathlib.Omega.{arith}
-use borrow.Author.Tests.{le-ltb, eq-eqb, ne_eqb}
-use lib.Dec.{eqb}
-use lib.IntN.{ℤ, nat_abs}
+use borrow.Author.Tests.{le-ltb, ne_eqb}
+use lib.IntN.{ℤ, pos, negsuc, nat_abs}
 use mir.Syntax.{w64}
+use lib.Signed.{quot_z}
 use mir.Val.{SFits, of_z}
-use Rattle.machine.specs.declared.outcome.Cause.TheVariants.{Unwhole, ZeroDivisor}
-use Rattle.machine.specs.Outcomes.{Res, on, halt, ◌>>=◌}
-use Rattle.machine.specs.States.{State}
-use Rattle.machine.specs.Arithmetics.{or_unwhole, taken_of, given_of, divided_of}
-use Rattle.machine.proofs.Calculus.{is_yes, is_no}
-use Rattle.machine.proofs.Integers.{held, reads_one, fits_whole, bits_zero, zero_bits}
-use Rattle.word.specs.Layout.{exponent_of}
-use Rattle.word.specs.Numbers.{value_of, whole_of, operand_of, the, given_back, says_whole, says_made}
+use mir.ValLaws.{to_z-of_z}
+use Rattle.std.specs.Int.{CanDivide}
+use Rattle.std.specs.Option.{SomeIff}
+use Rattle.std.specs.declared.option.Option.{Option}
+use Rattle.std.specs.declared.option.Option.TheVariants.{Some, None}
+use Rattle.std.proofs.lemmas.Int.{fits_signed_from_abs}
+use Rattle.machine.specs.declared.outcome.Cause.TheVariants.{Unwhole}
+use Rattle.machine.specs.Outcomes.{halt}
+use Rattle.machine.specs.Arithmetics.{given_of, divided_of}
+use Rattle.machine.specs.ForCode.Answers.{given_if}
+use Rattle.machine.proofs.Calculus.{is_no}
+use Rattle.word.specs.Numbers.{operand_of}
 use Rattle.word.specs.Choices.{if◌then◌otherwise◌}
-use Rattle.word.specs.declared.number.Whole.{Whole}
-use Rattle.word.specs.declared.number.Whole.TheVariants.{Number}
-use Rattle.word.specs.declared.number.Made.{Made}
-use Rattle.word.proofs.Operands.{value_small}
 
--- ---- a number taken
+zero_bits : (x : ℤ) → nat_abs x ≡ 0 → of_z w64 x ≡ 0
+zero_bits (pos n) e = e
+zero_bits (negsuc n) e = omega (arith, e)
 
-pub taken : (w : ℕ) {r c : Whole} → says_whole r ≡ whole_of w → r ≡ c → taken_of w ≡ or_unwhole (says_whole c)
-unfolding taken_of
-taken w e t = ap or_unwhole (sym e ∙ ap says_whole t)
-
--- "Its signed whole number lies between -(2^39-1) and 2^39-1."
-pub whole_small : (w : ℕ) {r : Whole} {x : ℤ} → says_whole r ≡ whole_of w → r ≡ Number x → nat_abs x < 2 ^ 39
-unfolding whole_of if◌then◌otherwise◌
-whole_small w {x = x} e t = go (eqb (exponent_of w) 0) (sym e ∙ ap says_whole t)
-  where
-    go : (b : Bool) → (if b then the (value_of w) otherwise given_back 20) ≡ the x → nat_abs x < 2 ^ 39
-    go true e = subst (λ (z : ℤ). nat_abs z < 2 ^ 39) (inj e) (value_small w)
-      where
-        inj : {y x : ℤ} → the y ≡ the x → y ≡ x
-        inj e = cc
-    go false e = absurd (clash e)
-      where
-        clash : {x : ℤ} → given_back 20 ≡ the x → ⊥
-        clash e = let z : ◌≡◌ {A = ℕ} 0 1 = cc in omega arith
-
-pub whole_fits : (w : ℕ) {r : Whole} {x : ℤ} → says_whole r ≡ whole_of w → r ≡ Number x → SFits w64 x
-whole_fits w {x = x} e t = fits_whole x (whole_small w e t)
-
-pub whole_held : (w : ℕ) {r : Whole} {x : ℤ} → says_whole r ≡ whole_of w → r ≡ Number x → nat_abs (held x) < 2 ^ 39
-whole_held w {x = x} e t = rw (reads_one nat_abs (whole_fits w e t)) (whole_small w e t)
-
--- ---- a number given
-
-pub made : {z : ℤ} {r c : Made} → SFits w64 z → says_made r ≡ operand_of (held z) → r ≡ c → or_unwhole (says_made c) ≡ given_of z
-unfolding given_of
-made h e t = ap or_unwhole (sym (ap says_made t) ∙ e) ∙ reads_one given_of h
-
-pub past_given : (z : ℤ) → 2 ^ 39 ≤ nat_abs z → halt Unwhole ≡ given_of z
+past_given : (z : ℤ) → 2 ^ 39 ≤ nat_abs z → halt Unwhole ≡ given_of z
 unfolding given_of operand_of if◌then◌otherwise◌
 past_given z h = rw (le-ltb (nat_abs z) (2 ^ 39) h)
 
--- A result that is read back before it is given.
-pub gives : {o : Res ℕ} (y z : ℤ) → y ≡ z → o ≡ given_of y → o ≡ given_of z
-gives y z e h = h ∙ ap given_of e
+pub given_is : (v : Option ℤ) (z : ℤ) → SomeIff v (SFits w64 z) z → given_if v ≡ given_of z
+given_is (Some x) z h = ap given_of h.1
+given_is None z h = past_given z (go (nat_abs z) (λ l. h (fits_signed_from_abs w64 z l)))
+  where
+    go : (n : ℕ) → (n < 2 ^ 63 → ⊥) → 2 ^ 39 ≤ n
+    go n f = omega (arith, f)
 
-pub divides_zero : (x z : ℤ) → SFits w64 x → of_z w64 x ≡ 0 → halt ZeroDivisor ≡ divided_of x z
+quotient_is : (v : Option ℤ) (y x : ℤ) → 0 < of_z w64 x → SomeIff v (CanDivide w64 y x) (quot_z y x) → given_if v ≡ given_of (quot_z y x)
+quotient_is (Some z) y x n h = ap given_of h.1
+quotient_is None y x n h = given_is None (quot_z y x) (λ f. h (n, f))
+
+pub quotient : (v : Option ℤ) (y x : ℤ) → (of_z w64 x ≡ 0 → ⊥) → SomeIff v (CanDivide w64 y x) (quot_z y x) → given_if v ≡ divided_of x (quot_z y x)
 unfolding divided_of
-divides_zero x z h e = is_yes _ _ (eq-eqb _ _ (bits_zero x h e)) refl
+quotient v y x n h = quotient_is v y x (omega (arith, n)) h ∙ is_no _ _ (ne_eqb _ _ (λ q. n (zero_bits x q))) refl
 
-pub divides : {o : Res ℕ} (x y z : ℤ) → (of_z w64 x ≡ 0 → ⊥) → y ≡ z → o ≡ given_of y → o ≡ divided_of x z
-unfolding divided_of
-divides x y z n e h = is_no _ _ (ne_eqb _ _ (λ q. n (zero_bits x q))) (gives y z e h)
-
--- ---- both numbers taken, then the result worked
-
-module _ (f : ℤ → ℤ → Res ℕ) (k : ℕ → Res State) where
-  regroup : (p q : Res ℤ) → ((p >>= (λ x. q >>= (λ y. f y x))) >>= k) ≡ (p >>= (λ x. q >>= (λ y. f y x >>= k)))
-  unfolding ◌>>=◌
-  regroup (on x) (on y) = refl
-  regroup (on x) (halt n) = refl
-  regroup (halt n) q = refl
-
-  pub worked : {z : Res State} (a b : ℕ) → z ≡ ((taken_of a >>= (λ x. taken_of b >>= (λ y. f y x))) >>= k) → z ≡ (taken_of a >>= (λ x. taken_of b >>= (λ y. f y x >>= k)))
-  worked a b e = e ∙ regroup (taken_of a) (taken_of b)
+pub ruleset signed = (given_is, quotient, to_z-of_z)

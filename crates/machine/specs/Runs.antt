@@ -2,9 +2,12 @@
 use Rattle.std.specs.Prelude.{ℕ, zero, suc, ◌+◌, List, eqb, leb}
 use Rattle.machine.specs.declared.outcome.Registers.{Registers}
 use Rattle.machine.specs.declared.outcome.Ran.{Ran}
+use Rattle.machine.specs.declared.outcome.Refusal.{Refusal}
+use Rattle.std.specs.declared.result.Result.{Result}
+use Rattle.std.specs.declared.result.Result.TheVariants.{Ok, Err}
 use Rattle.machine.specs.Outcomes.{number_of, if◌then◌otherwise◌}
 use Rattle.machine.specs.States.{State, state_of}
-use Rattle.machine.specs.Steps.{Ended, next, communicated, stopped, execute_of, refusal_of}
+use Rattle.machine.specs.Steps.{Ended, next, communicated, stopped, execute_of, refusal_of, end_number, refusal_number}
 
 -- "A run answers the stop, the syllables completed (COM counts) and the state"
 pub record Run : Type 0 where
@@ -38,6 +41,11 @@ run_of core g budget =
     (if leb budget 1000000 then run_from budget (state_of core g) otherwise ends_at 5 0 (state_of core g))
     otherwise ends_at (refusal_of core g) 0 (state_of core g)
 
--- A run's answer with the core that it left.
-abbrev pub ran_of : Ran → List ℕ → Run
-ran_of r core = record { stop = r.stop; completed = r.completed; core = core; regs = r.regs }
+-- A run with the core that it left.
+abbrev pub run_says : Ran → List ℕ → Run
+run_says r core = record { stop = end_number r.end; completed = r.completed; core = core; regs = r.regs }
+
+-- A run's answer with the core that it left; a refusal leaves the registers g, which it was handed.
+abbrev pub ran_of : Registers → Result Ran Refusal → List ℕ → Run
+ran_of g (Ok r) core = run_says r core
+ran_of g (Err n) core = record { stop = refusal_number n; completed = 0; core = core; regs = g }

@@ -4,6 +4,12 @@ use Rattle.machine.specs.declared.outcome.Cause.{Cause}
 use Rattle.machine.specs.declared.outcome.Cause.TheVariants.{Unbuilt}
 use Rattle.machine.specs.declared.outcome.Registers.{Registers}
 use Rattle.machine.specs.declared.outcome.Answer.{Answer}
+use Rattle.machine.specs.declared.outcome.End.{End}
+use Rattle.machine.specs.declared.outcome.End.TheVariants.{On, Communicated, Stopped}
+use Rattle.machine.specs.declared.outcome.Refusal.{Refusal}
+use Rattle.machine.specs.declared.outcome.Refusal.TheVariants.{Core, Registers as Register, Budget}
+use Rattle.std.specs.declared.result.Result.{Result}
+use Rattle.std.specs.declared.result.Result.TheVariants.{Ok, Err}
 use Rattle.machine.specs.Outcomes.{Res, on, halt, number_of, if◌then◌otherwise◌}
 use Rattle.machine.specs.States.{State, state_of, with_cl}
 use Rattle.machine.specs.Memory.{read_of}
@@ -21,7 +27,7 @@ use Rattle.syllable.specs.declared.Operator.{Operator}
 use Rattle.syllable.specs.declared.Operator.TheVariants.{Arithmetic, Relation, Logic, Branch, Mop, Mds, Ssp, Ssn, Chs, Top, Xch, Dup, Del, Nop, Lod, Std, Snd, Inx, Mks, Xit, Com, NotBuilt}
 use Rattle.syllable.specs.declared.Syllable.{Syllable}
 use Rattle.syllable.specs.declared.Syllable.TheVariants.{Litc, Opdc, Desc, Operator as Operates}
-use Rattle.word.specs.Core.{length_fits, words_fit}
+use Rattle.word.specs.Core.{length_fits, words_fit, core_error_number}
 use Rattle.syllable.specs.Decoding.{decode_of}
 use Rattle.syllable.specs.Positions.{syllable_of, advance_of}
 
@@ -129,6 +135,18 @@ step_of core g =
     if eqb (refusal_of core g) 0 then ended_as (execute_of (state_of core g)) (state_of core g)
     otherwise record { number = refusal_of core g; core = core; regs = g }
 
--- A step's answer with the core that it left.
-abbrev pub answered : Answer → List ℕ → Stepped
-answered r core = record { number = r.number; core = core; regs = r.regs }
+-- "0 means went on, or budget spent"; 17 for COM; else the cause's number.
+abbrev pub end_number : End → ℕ
+end_number On = 0
+end_number Communicated = 17
+end_number (Stopped n) = number_of n
+
+abbrev pub refusal_number : Refusal → ℕ
+refusal_number (Core e) = core_error_number e
+refusal_number Register = 3
+refusal_number Budget = 5
+
+-- A step's answer with the core that it left; a refusal leaves the registers g, which it was handed.
+abbrev pub answered : Registers → Result Answer Refusal → List ℕ → Stepped
+answered g (Ok r) core = record { number = end_number r.end; core = core; regs = r.regs }
+answered g (Err n) core = record { number = refusal_number n; core = core; regs = g }

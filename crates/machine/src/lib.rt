@@ -17,6 +17,7 @@ mod steps;
 mod stores;
 mod xit;
 
-pub use outcome::{Answer, Cause, Ran, Registers};
+pub use branches::landing;
+pub use outcome::{Answer, Cause, End, Ran, Refusal, Registers};
 pub use runs::run;
 pub use steps::step;

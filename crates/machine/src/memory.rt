@@ -1,93 +1,78 @@
 // Reading, storing, and the address of k.
-ghost use Rattle.std.specs.Prelude.{◌≡◌, ℕ, ◌≤◌, List, length, set};
+ghost use Rattle.std.specs.Prelude.{◌≡◌, ◌<◌, length, IfOk};
+ghost use Rattle.machine.specs.Outcomes.{part_of};
 ghost use Rattle.machine.specs.Memory.{in_core, read_of, base_of, pattern_of, k_address_of};
-ghost use Rattle.machine.specs.ForCode.Answers.{part_of, spot_says, put_of};
+ghost use Rattle.machine.specs.ForCode.Answers.{put_of};
 ghost use Rattle.machine.specs.States.{state_of};
 
-use crate::outcome::{Cause, Part, Registers, Spot};
+use crate::outcome::{Cause, Registers};
+use word::cell_address;
 
-pub fn in_core(len: usize, m: usize) -> Spot
-    ensures { spot_says result ≡ in_core len m }
+#[tactic(auto, unfolding(crate::specs::Memory::in_core, crate::proofs::Calculus::branching))]
+pub fn in_core(len: usize, m: usize) -> Result<usize, Cause>
+    ensures same { part_of result ≡ in_core len m }
+    ensures below { IfOk result (λ m. m < len) }
 {
-    if m < len {
-        return Spot::At(m);
-    }
-    Spot::Stop(Cause::Address)
+    if m < len { Ok(m) } else { Err(Cause::Address) }
 }
 
-pub fn read(core: &[u64], m: usize) -> Part
+#[tactic(auto, unfolding(crate::specs::Memory::read_of, crate::specs::Memory::in_core, crate::proofs::Calculus::branching))]
+pub fn read(core: &[u64], m: usize) -> Result<u64, Cause>
     ensures { part_of result ≡ read_of core.now m }
 {
-    if m < core.len() {
-        return Part::Word(core[m]);
-    }
-    Part::Stop(Cause::Address)
+    core.get(m).copied().ok_or(Cause::Address)
 }
 
 // Writes a word where the address is in core.
 pub fn put(core: &mut [u64], live: bool, m: usize, w: u64)
     ensures { core.new ≡ put_of live m w core.old }
 {
-    if live {
-        if m < core.len() {
-            core[m] = w;
-        }
+    if live && m < core.len() {
+        core[m] = w;
     }
 }
 
-pub fn base(core: &[u64], g: Registers) -> Spot
-    ensures { spot_says result ≡ base_of (state_of core.now g) }
+#[tactic(auto, unfolding(crate::specs::Memory::base_of, crate::proofs::Calculus::branching))]
+pub fn base(core: &[u64], g: Registers) -> Result<u16, Cause>
+    ensures { part_of result ≡ base_of (state_of core.now g) }
 {
     if g.msff {
-        match read(core, 64 * g.r as usize + 7) {
-            Part::Word(w) => {
-                return Spot::At(word::f_field(w) as usize);
-            }
-            Part::Stop(n) => {
-                return Spot::Stop(n);
-            }
-        }
+        Ok(word::f_field(read(core, cell_address(g.r, 7))?))
+    } else {
+        Ok(g.f)
     }
-    Spot::At(g.f as usize)
 }
 
-pub fn pattern(core: &[u64], here: u16, g: Registers, k: u16) -> Spot
-    ensures { spot_says result ≡ pattern_of here (state_of core.now g) k }
+#[tactic(auto, unfolding(crate::specs::Memory::pattern_of, crate::proofs::Calculus::branching))]
+pub fn pattern(core: &[u64], here: u16, g: Registers, k: u16) -> Result<usize, Cause>
+    ensures same { part_of result ≡ pattern_of here (state_of core.now g) k }
+    ensures below { IfOk result (λ m. m < length core.now) }
 {
     let len = core.len();
     if k / 512 == 0 {
-        return in_core(len, 64 * g.r as usize + k as usize % 512);
-    }
-    if k / 256 == 2 {
-        match base(core, g) {
-            Spot::At(b) => {
-                return in_core(len, b + k as usize % 256);
-            }
-            Spot::Stop(n) => {
-                return Spot::Stop(n);
-            }
+        in_core(len, cell_address(g.r, k % 512))
+    } else if k / 256 == 2 {
+        in_core(len, base(core, g)? as usize + k as usize % 256)
+    } else if k / 128 == 6 {
+        in_core(len, here as usize + k as usize % 128)
+    } else {
+        let from = base(core, g)?;
+        if from < k % 128 {
+            Err(Cause::Address)
+        } else {
+            in_core(len, (from - k % 128) as usize)
         }
-    }
-    if k / 128 == 6 {
-        return in_core(len, here as usize + k as usize % 128);
-    }
-    match base(core, g) {
-        Spot::At(b) => {
-            let d = k as usize % 128;
-            if b < d {
-                return Spot::Stop(Cause::Address);
-            }
-            in_core(len, b - d)
-        }
-        Spot::Stop(n) => Spot::Stop(n),
     }
 }
 
-pub fn k_address(core: &[u64], here: u16, g: Registers, k: u16) -> Spot
-    ensures { spot_says result ≡ k_address_of here (state_of core.now g) k }
+#[tactic(auto, unfolding(crate::specs::Memory::k_address_of, crate::proofs::Calculus::branching))]
+pub fn k_address(core: &[u64], here: u16, g: Registers, k: u16) -> Result<usize, Cause>
+    ensures same { part_of result ≡ k_address_of here (state_of core.now g) k }
+    ensures below { IfOk result (λ m. m < length core.now) }
 {
     if g.salf {
-        return pattern(core, here, g, k);
+        pattern(core, here, g, k)
+    } else {
+        in_core(core.len(), cell_address(g.r, k))
     }
-    in_core(core.len(), 64 * g.r as usize + k as usize)
 }

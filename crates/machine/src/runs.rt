@@ -1,78 +1,62 @@
 // The run: steps until a stop or the budget is spent.
 ghost use Rattle.std.specs.Prelude.{◌≡◌, ◌≤◌, length};
-ghost use Rattle.machine.specs.Runs.{run_from, run_of, ran_of};
+ghost use Rattle.machine.specs.Runs.{run_from, run_of, run_says, ran_of};
 ghost use Rattle.machine.specs.States.{state_of};
-ghost use Rattle.syllable.specs.Numbers.{operator_numbers};
 
-use crate::checks::refusal;
-use crate::outcome::{Done, Ran, Registers};
+use crate::checks::check;
+use crate::outcome::{Done, End, Ran, Refusal, Registers};
 use crate::quick::sprint;
-use crate::steps::{execute, number};
+use crate::steps::execute;
+use syllable::Table;
 
 // A sprint over the common syllables, then a full step for the next one. A fit state stays fit, so the checks are not made again.
-fn turns(table: &[u8], core: &mut [u64], g: Registers, budget: u64) -> Ran
-    requires { (length core.old ≤ 32768) × (table.now ≡ operator_numbers) }
-    ensures { ran_of result core.new ≡ run_from budget (state_of core.old g) }
+// A sprint completes many syllables, so the loop is no `for`.
+fn turns(table: &Table, core: &mut [u64], g: Registers, budget: u64) -> Ran
+    requires { length core.old ≤ 32768 }
+    ensures { run_says result core.new ≡ run_from budget (state_of core.old g) }
 {
-    let mut h = g;
-    let mut n: u64 = 0;
-    while n < budget {
-        let q = sprint(table, core, h, n, budget);
-        let m = q.completed;
-        let v = q.regs;
-        if m == budget {
+    let mut regs = g;
+    let mut completed = 0;
+    loop {
+        let q = sprint(table, core, regs, completed, budget);
+        if q.completed == budget {
             return Ran {
-                stop: 0,
-                completed: m,
-                regs: v,
+                end: End::On,
+                completed: budget,
+                regs: q.regs,
             };
         }
-        let x = match execute(table, core, v) {
-            Done::Next(x) => x,
-            Done::Com(x) => {
+        match execute(table, core, q.regs) {
+            Ok(Done::Next(h)) => {
+                regs = h;
+                completed = q.completed + 1;
+            }
+            Ok(Done::Com(h)) => {
                 return Ran {
-                    stop: 17,
-                    completed: m + 1,
-                    regs: x,
+                    end: End::Communicated,
+                    completed: q.completed + 1,
+                    regs: h,
                 };
             }
-            Done::Stop(cause) => {
+            Err(cause) => {
                 return Ran {
-                    stop: number(cause),
-                    completed: m,
-                    regs: v,
+                    end: End::Stopped(cause),
+                    completed: q.completed,
+                    regs: q.regs,
                 };
             }
-        };
-        h = x;
-        n = m + 1;
-    }
-    Ran {
-        stop: 0,
-        completed: n,
-        regs: h,
+        }
     }
 }
 
 // Checks 1, 2, 3 and 5 once, then steps.
-pub fn run(core: &mut [u64], g: Registers, budget: u64) -> Ran
-    ensures { ran_of result core.new ≡ run_of core.old g budget }
+#[tactic(auto, using(crate::proofs::Running::run_refused, crate::proofs::Running::run_over, crate::proofs::Running::run_steps, crate::proofs::Endings::refusal_length))]
+pub fn run(core: &mut [u64], g: Registers, budget: u64) -> Result<Ran, Refusal>
+    ensures { ran_of g result core.new ≡ run_of core.old g budget }
 {
-    let n = refusal(&core[..], g);
-    if n == 0 {
-        if budget <= 1000000 {
-            let table = syllable::numbers();
-            return turns(&table, core, g, budget);
-        }
-        return Ran {
-            stop: 5,
-            completed: 0,
-            regs: g,
-        };
+    check(&core[..], g)?;
+    if 1000000 < budget {
+        return Err(Refusal::Budget);
     }
-    Ran {
-        stop: n,
-        completed: 0,
-        regs: g,
-    }
+    Ok(turns(&Table::new(), core, g, budget))
 }

@@ -1,212 +1,141 @@
 // The step: fetch, advance, perform; and the checks before it.
-ghost use Rattle.std.specs.Prelude.{◌≡◌, ℕ, ◌≤◌, ◌<◌, length};
-ghost use Rattle.machine.specs.Outcomes.{number_of};
-ghost use Rattle.machine.specs.Steps.{plain as plain_of, operate_of, perform_of, execute_of, step_of, answered};
-ghost use Rattle.machine.specs.States.{State, state_of};
-ghost use Rattle.machine.specs.Arithmetics.{two_of};
-ghost use Rattle.machine.specs.Bits.{two_words_of, one_word_of};
-ghost use Rattle.machine.specs.ForCode.Answers.{done_of, plain_as, last_as, Ends, binary_of, join_of, change_of};
-ghost use Rattle.syllable.specs.Numbers.{operator_numbers};
-ghost use Rattle.syllable.specs.ForCode.Numbered.{operator_numbered, syllable_numbered};
+ghost use Rattle.std.specs.Prelude.{◌≡◌, ◌≤◌, ◌<◌, length};
+ghost use Rattle.machine.specs.Steps.{logic_as, branch_as, operate_of, perform_of, execute_of, step_of, answered};
+ghost use Rattle.machine.specs.States.{state_of};
+ghost use Rattle.machine.specs.ForCode.Answers.{went_of, plain_as, Ends};
 
-use crate::arithmetic::two;
-use crate::bits::{del, dup, inx, one_word, top_flag, two_words, xch};
+use crate::arithmetic::{reckon, relate, two};
+use crate::bits::{del, dup, inx, lng, lqv, one_word, top_flag, two_words, xch};
 use crate::branches::{always, if_off};
 use crate::calls::call_k;
-use crate::checks::refusal;
+use crate::checks::check;
 use crate::memory::read;
 use crate::mks::mks;
-use crate::outcome::{Answer, Binary, Cause, Change, Done, Join, Part, Registers, Went};
-use crate::stores::{com, litc, lod, snd, std_op};
+use crate::outcome::{Answer, Cause, Done, End, Refusal, Registers};
+use crate::stores::{com, litc, lod, store};
 use crate::xit::xit;
-use syllable::{Arithmetic, Relation};
+use syllable::{Branch, Logic, Operator, Syllable, Table};
 
-// The number of a cause.
-pub fn number(n: Cause) -> u64
-    ensures { result ≡ number_of n }
-{
-    match n {
-        Cause::Address => 11,
-        Cause::Overflow => 12,
-        Cause::Presence => 13,
-        Cause::Flag => 14,
-        Cause::Index => 15,
-        Cause::Unbuilt => 19,
-        Cause::Unwhole => 20,
-        Cause::ZeroDivisor => 21,
-    }
-}
-
-fn plain(w: Went) -> Done
+// A syllable that goes on.
+fn plain(w: Result<Registers, Cause>) -> Result<Done, Cause>
     ensures { result ≡ plain_as w }
 {
-    match w {
-        Went::On(g) => Done::Next(g),
-        Went::Stop(n) => Done::Stop(n),
-    }
+    Ok(Done::Next(w?))
 }
 
-fn last(w: Went) -> Done
-    ensures { result ≡ last_as w }
+// LND, LOR, LQV, LNG.
+fn logic(core: &[u64], g: Registers, o: Logic) -> Result<Registers, Cause>
+    ensures { went_of core.now result ≡ logic_as o (state_of core.now g) }
 {
-    match w {
-        Went::On(g) => Done::Com(g),
-        Went::Stop(n) => Done::Stop(n),
+    match o {
+        Logic::Lnd => two_words(
+            core,
+            g,
+            |b, a| word::with_body(b, word::body(b) & word::body(a)),
+        ),
+        Logic::Lor => two_words(
+            core,
+            g,
+            |b, a| word::with_body(b, word::body(b) | word::body(a)),
+        ),
+        Logic::Lqv => two_words(core, g, lqv),
+        Logic::Lng => one_word(core, g, lng),
     }
 }
 
-// The operator numbers 1 to 11, on two whole numbers.
-pub fn binary(n: u8) -> Binary
-    requires { (1 ≤ n) × (n ≤ 11) }
-    ensures { (here k : ℕ) (st : State) → operate_of here (operator_numbered n k) st ≡ plain_of (two_of (binary_of result) st) }
+// BFW, BBW, BFC, BBC.
+fn branch(core: &[u64], g: Registers, o: Branch) -> Result<Registers, Cause>
+    requires { g.l < 4 }
+    ensures { went_of core.now result ≡ branch_as o (state_of core.now g) }
 {
-    match n {
-        1 => Binary::Reckon(Arithmetic::Add),
-        2 => Binary::Reckon(Arithmetic::Sub),
-        3 => Binary::Reckon(Arithmetic::Mul),
-        4 => Binary::Reckon(Arithmetic::Idv),
-        5 => Binary::Reckon(Arithmetic::Rdv),
-        6 => Binary::Relate(Relation::Gtr),
-        7 => Binary::Relate(Relation::Geq),
-        8 => Binary::Relate(Relation::Eql),
-        9 => Binary::Relate(Relation::Leq),
-        10 => Binary::Relate(Relation::Lss),
-        _ => Binary::Relate(Relation::Neq),
+    match o {
+        Branch::Bfw => always(core, false, g),
+        Branch::Bbw => always(core, true, g),
+        Branch::Bfc => if_off(core, false, g),
+        Branch::Bbc => if_off(core, true, g),
     }
 }
 
-// The operator numbers 12 to 14, on two words.
-fn join(n: u8) -> Join
-    requires { (12 ≤ n) × (n ≤ 14) }
-    ensures { (here k : ℕ) (st : State) → operate_of here (operator_numbered n k) st ≡ plain_of (two_words_of (join_of result) st) }
-{
-    match n {
-        12 => Join::Lnd,
-        13 => Join::Lor,
-        _ => Join::Lqv,
-    }
-}
-
-// The operator numbers 15 to 20, on one word.
-fn change(n: u8) -> Change
-    requires { (15 ≤ n) × (n ≤ 20) }
-    ensures { (here k : ℕ) (st : State) → operate_of here (operator_numbered n k) st ≡ plain_of (one_word_of (change_of result) st) }
-{
-    match n {
-        15 => Change::Lng,
-        16 => Change::Mop,
-        17 => Change::Mds,
-        18 => Change::Ssp,
-        19 => Change::Ssn,
-        _ => Change::Chs,
-    }
-}
-
-// The operators that only work A and B.
-fn on_words(core: &[u64], here: u16, n: u8, k: u16, g: Registers) -> Done
-    requires { (1 ≤ n) × (n ≤ 20) }
-    ensures { done_of core.now result ≡ operate_of here (operator_numbered n k) (state_of core.now g) }
-{
-    if n <= 11 {
-        return plain(two(core, g, binary(n)));
-    }
-    if n <= 14 {
-        return plain(two_words(core, g, join(n)));
-    }
-    plain(one_word(core, g, change(n)))
-}
-
-// What the operator with number n does, from TOP on.
-fn operate(core: &mut [u64], here: u16, n: u8, k: u16, g: Registers) -> Done
-    requires { (length core.old ≤ 32768) × (g.l < 4) × (21 ≤ n) }
-    ensures { Ends core.old core.new result (operate_of here (operator_numbered n k) (state_of core.old g)) }
-{
-    match n {
-        21 => plain(top_flag(core, g)),
-        22 => plain(xch(&core[..], g)),
-        23 => plain(dup(core, g)),
-        24 => plain(del(&core[..], g)),
-        25 => Done::Next(g),
-        26 => plain(lod(&core[..], here, g)),
-        27 => plain(std_op(core, here, g)),
-        28 => plain(snd(core, here, g)),
-        29 => plain(inx(&core[..], g)),
-        30 => plain(always(&core[..], false, g)),
-        31 => plain(always(&core[..], true, g)),
-        32 => plain(if_off(&core[..], false, g)),
-        33 => plain(if_off(&core[..], true, g)),
-        34 => plain(mks(core, g)),
-        35 => plain(xit(core, g)),
-        36 => last(com(core, g)),
-        _ => Done::Stop(Cause::Unbuilt),
-    }
-}
-
-// What the syllable with operator number n and number k does.
-fn perform(core: &mut [u64], here: u16, n: u8, k: u16, g: Registers) -> Done
+// What each operator does; here is the address of the present syllable's word.
+#[tactic(auto, unfolding(crate::specs::Steps::operate_of, crate::proofs::Calculus::branching), using(crate::proofs::Endings::plains))]
+fn operate(core: &mut [u64], here: u16, o: Operator, g: Registers) -> Result<Done, Cause>
     requires { (length core.old ≤ 32768) × (g.l < 4) }
-    ensures { Ends core.old core.new result (perform_of here (syllable_numbered n k) (state_of core.old g)) }
+    ensures { Ends core.old core.new result (operate_of here o (state_of core.old g)) }
 {
-    if (n == 38) | (n == 39) {
-        return plain(call_k(core, n == 39, here, g, k));
+    // One arm for STD and SND, so that `store` has one caller and is built into the run.
+    let keep = matches!(o, Operator::Snd);
+    match o {
+        Operator::Arithmetic(a) => plain(two(&core[..], g, |y, x| reckon(a, y, x))),
+        Operator::Relation(r) => plain(two(&core[..], g, |y, x| relate(r, y, x))),
+        Operator::Logic(l) => plain(logic(&core[..], g, l)),
+        Operator::Branch(b) => plain(branch(&core[..], g, b)),
+        Operator::Mop => plain(one_word(&core[..], g, |a| word::with_flag(a, false))),
+        Operator::Mds => plain(one_word(&core[..], g, |a| word::with_flag(a, true))),
+        Operator::Ssp => plain(one_word(&core[..], g, |a| word::with_sign(a, false))),
+        Operator::Ssn => plain(one_word(&core[..], g, |a| word::with_sign(a, true))),
+        Operator::Chs => plain(one_word(&core[..], g, |a| word::with_sign(a, !word::sign(a)))),
+        Operator::Top => plain(top_flag(core, g)),
+        Operator::Xch => plain(xch(&core[..], g)),
+        Operator::Dup => plain(dup(core, g)),
+        Operator::Del => plain(del(&core[..], g)),
+        Operator::Nop => Ok(Done::Next(g)),
+        Operator::Lod => plain(lod(&core[..], here, g)),
+        Operator::Std | Operator::Snd => plain(store(core, here, g, keep)),
+        Operator::Inx => plain(inx(&core[..], g)),
+        Operator::Mks => plain(mks(core, g)),
+        Operator::Xit => plain(xit(core, g)),
+        Operator::Com => Ok(Done::Com(com(core, g)?)),
+        Operator::NotBuilt(_) => Err(Cause::Unbuilt),
     }
-    if n == 37 {
-        return plain(litc(core, g, k));
+}
+
+// What a syllable does.
+#[tactic(auto, unfolding(crate::specs::Steps::perform_of))]
+fn perform(core: &mut [u64], here: u16, s: Syllable, g: Registers) -> Result<Done, Cause>
+    requires { (length core.old ≤ 32768) × (g.l < 4) }
+    ensures { Ends core.old core.new result (perform_of here s (state_of core.old g)) }
+{
+    // One arm for OPDC and DESC, so that `call_k` has one caller and is built into the run.
+    let desc = matches!(s, Syllable::Desc(_));
+    match s {
+        Syllable::Litc(k) => plain(litc(core, g, k)),
+        Syllable::Opdc(k) | Syllable::Desc(k) => plain(call_k(core, desc, here, g, k)),
+        Syllable::Operator(o) => operate(core, here, o, g),
     }
-    if n == 0 {
-        return Done::Stop(Cause::Unbuilt);
-    }
-    if n <= 20 {
-        return on_words(&core[..], here, n, k, g);
-    }
-    operate(core, here, n, k, g)
 }
 
 // One syllable of a fit state; the table is lent, since a constant table is built anew at every use.
-pub fn execute(table: &[u8], core: &mut [u64], g: Registers) -> Done
-    requires { (length core.old ≤ 32768) × (table.now ≡ operator_numbers) }
+#[tactic(auto, unfolding(crate::specs::Steps::execute_of), using(crate::proofs::Endings::syllable_small))]
+pub fn execute(table: &Table, core: &mut [u64], g: Registers) -> Result<Done, Cause>
+    requires { length core.old ≤ 32768 }
     ensures { Ends core.old core.new result (execute_of (state_of core.old g)) }
 {
-    let w = match read(&core[..], g.c as usize) {
-        Part::Word(w) => w,
-        Part::Stop(n) => {
-            return Done::Stop(n);
-        }
-    };
+    let w = read(&core[..], g.c as usize)?;
     let y = syllable::syllable_at(w, g.l);
-    let i = y as usize;
-    let n = table[i];
     let p = syllable::advance(g.c, g.l);
-    let mut h = g;
-    h.c = p.c;
-    h.l = p.l;
-    perform(core, g.c, n, y / 4, h)
+    let h = Registers {
+        c: p.c,
+        l: p.l,
+        ..g
+    };
+    perform(core, g.c, table.read(y), h)
 }
 
 // Checks 1, 2 and 3, then one syllable.
-pub fn step(core: &mut [u64], g: Registers) -> Answer
-    ensures { answered result core.new ≡ step_of core.old g }
+#[tactic(auto, using(crate::proofs::Endings::refused, crate::proofs::Endings::stepped, crate::proofs::Endings::refusal_length))]
+pub fn step(core: &mut [u64], g: Registers) -> Result<Answer, Refusal>
+    ensures { answered g result core.new ≡ step_of core.old g }
 {
-    let n = refusal(&core[..], g);
-    if n == 0 {
-        let table = syllable::numbers();
-        match execute(&table, core, g) {
-            Done::Next(h) => {
-                return Answer { number: 0, regs: h };
-            }
-            Done::Com(h) => {
-                return Answer {
-                    number: 17,
-                    regs: h,
-                };
-            }
-            Done::Stop(cause) => {
-                return Answer {
-                    number: number(cause),
-                    regs: g,
-                };
-            }
-        }
+    check(&core[..], g)?;
+    match execute(&Table::new(), core, g) {
+        Ok(Done::Next(regs)) => Ok(Answer { end: End::On, regs }),
+        Ok(Done::Com(regs)) => Ok(Answer {
+            end: End::Communicated,
+            regs,
+        }),
+        Err(cause) => Ok(Answer {
+            end: End::Stopped(cause),
+            regs: g,
+        }),
     }
-    Answer { number: n, regs: g }
 }

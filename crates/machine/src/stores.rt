@@ -1,112 +1,92 @@
 // LITC, LOD, STD, SND and COM.
-ghost use Rattle.std.specs.Prelude.{◌≡◌, ◌≤◌, length};
+ghost use Rattle.std.specs.Prelude.{◌≡◌, ◌≤◌, ◌<◌, length, IfOk};
+ghost use Rattle.machine.specs.Outcomes.{part_of};
 ghost use Rattle.machine.specs.Stores.{litc_of, place_of, lod_of, snd_of, std_of, com_of};
-ghost use Rattle.machine.specs.ForCode.Answers.{spot_says, went_of, Does};
+ghost use Rattle.machine.specs.ForCode.Answers.{went_of, Does};
 ghost use Rattle.machine.specs.States.{state_of};
+ghost use Rattle.word.specs.Choices.{if◌then◌otherwise◌};
 
-use crate::memory::{in_core, k_address, put};
-use crate::outcome::{Cause, Registers, Spot, Went};
+use crate::memory::{in_core, k_address};
+use crate::outcome::{Cause, Registers};
 use crate::stack::{a_empty, a_full, both_full};
+use word::cell_address;
 
-pub fn litc(core: &mut [u64], g: Registers, k: u16) -> Went
+#[tactic(auto, unfolding(crate::specs::Stores::litc_of, crate::proofs::Calculus::branching))]
+pub fn litc(core: &mut [u64], g: Registers, k: u16) -> Result<Registers, Cause>
     requires { length core.old ≤ 32768 }
     ensures { Does core.old core.new result (litc_of (state_of core.old g) k) }
 {
-    let mut h = match a_empty(core, g) {
-        Went::On(h) => h,
-        Went::Stop(n) => {
-            return Went::Stop(n);
-        }
-    };
-    let w = k as u64;
-    h.a = w;
-    h.afull = true;
-    Went::On(h)
+    let h = a_empty(core, g)?;
+    Ok(Registers {
+        a: k as u64,
+        afull: true,
+        ..h
+    })
 }
 
-pub fn place(core: &[u64], here: u16, g: Registers, a: u64) -> Spot
-    ensures { spot_says result ≡ place_of here (state_of core.now g) a }
+#[tactic(auto, unfolding(crate::specs::Stores::place_of, crate::proofs::Calculus::branching), using(crate::proofs::Turns::low_bits))]
+pub fn place(core: &[u64], here: u16, g: Registers, a: u64) -> Result<usize, Cause>
+    ensures same { part_of result ≡ place_of here (state_of core.now g) a }
+    ensures below { IfOk result (λ m. m < length core.now) }
 {
     if word::flag(a) {
         if word::presence(a) {
-            return in_core(core.len(), word::address(a) as usize);
+            in_core(core.len(), word::address(a) as usize)
+        } else {
+            Err(Cause::Presence)
         }
-        return Spot::Stop(Cause::Presence);
+    } else {
+        k_address(core, here, g, (a % 1024) as u16)
     }
-    k_address(core, here, g, (a % 1024) as u16)
 }
 
-pub fn lod(core: &[u64], here: u16, g: Registers) -> Went
+#[tactic(auto, unfolding(crate::specs::Stores::lod_of, crate::proofs::Calculus::branching))]
+pub fn lod(core: &[u64], here: u16, g: Registers) -> Result<Registers, Cause>
     ensures { went_of core.now result ≡ lod_of here (state_of core.now g) }
 {
-    let mut h = match a_full(core, g) {
-        Went::On(h) => h,
-        Went::Stop(n) => {
-            return Went::Stop(n);
-        }
-    };
-    let m = match place(core, here, h, h.a) {
-        Spot::At(m) => m,
-        Spot::Stop(n) => {
-            return Went::Stop(n);
-        }
-    };
-    let w = core[m];
-    h.a = w;
-    h.afull = true;
-    Went::On(h)
+    let h = a_full(core, g)?;
+    let m = place(core, here, h, h.a)?;
+    Ok(Registers {
+        a: core[m],
+        afull: true,
+        ..h
+    })
 }
 
-pub fn snd(core: &mut [u64], here: u16, g: Registers) -> Went
-    ensures { Does core.old core.new result (snd_of here (state_of core.old g)) }
+// STD and SND, which keeps B's word.
+#[tactic(auto, unfolding(crate::specs::Stores::std_of, crate::specs::Stores::snd_of, crate::proofs::Calculus::branching))]
+pub fn store(core: &mut [u64], here: u16, g: Registers, keep: bool) -> Result<Registers, Cause>
+    ensures { Does core.old core.new result (if keep then snd_of here (state_of core.old g) otherwise std_of here (state_of core.old g)) }
 {
-    let mut h = match both_full(&core[..], g) {
-        Went::On(h) => h,
-        Went::Stop(n) => {
-            return Went::Stop(n);
-        }
+    let h = both_full(core, g)?;
+    let m = place(core, here, h, h.a)?;
+    core[m] = h.b;
+    let u = Registers {
+        a: 0,
+        afull: false,
+        ..h
     };
-    let m = match place(&core[..], here, h, h.a) {
-        Spot::At(m) => m,
-        Spot::Stop(n) => {
-            return Went::Stop(n);
-        }
-    };
-    put(core, true, m, h.b);
-    h.a = 0;
-    h.afull = false;
-    Went::On(h)
+    if keep {
+        Ok(u)
+    } else {
+        Ok(Registers {
+            b: 0,
+            bfull: false,
+            ..u
+        })
+    }
 }
 
-pub fn std_op(core: &mut [u64], here: u16, g: Registers) -> Went
-    ensures { Does core.old core.new result (std_of here (state_of core.old g)) }
-{
-    let mut h = match snd(core, here, g) {
-        Went::On(h) => h,
-        Went::Stop(n) => {
-            return Went::Stop(n);
-        }
-    };
-    h.b = 0;
-    h.bfull = false;
-    Went::On(h)
-}
-
-pub fn com(core: &mut [u64], g: Registers) -> Went
+#[tactic(auto, unfolding(crate::specs::Stores::com_of, crate::specs::Memory::store_of, crate::proofs::Calculus::branching))]
+pub fn com(core: &mut [u64], g: Registers) -> Result<Registers, Cause>
     ensures { Does core.old core.new result (com_of (state_of core.old g)) }
 {
-    let mut h = match a_full(&core[..], g) {
-        Went::On(h) => h,
-        Went::Stop(n) => {
-            return Went::Stop(n);
-        }
-    };
-    let m = 64 * h.r as usize + 9;
-    if m < core.len() {
-        put(core, true, m, h.a);
-        h.a = 0;
-        h.afull = false;
-        return Went::On(h);
-    }
-    Went::Stop(Cause::Address)
+    let h = a_full(core, g)?;
+    let m = in_core(core.len(), cell_address(h.r, 9))?;
+    core[m] = h.a;
+    Ok(Registers {
+        a: 0,
+        afull: false,
+        ..h
+    })
 }

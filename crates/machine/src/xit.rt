@@ -1,126 +1,100 @@
 // XIT: back through the two control words, and the last mark of the chain.
-ghost use Rattle.std.specs.Prelude.{◌≡◌};
+ghost use Rattle.std.specs.Prelude.{◌≡◌, ◌≤◌, IfOk};
+ghost use Rattle.machine.specs.Outcomes.{part_of};
 ghost use Rattle.machine.specs.Marks.{control_of, mark_at_of, chain_of, restore_of, leave_of, xit_of};
-ghost use Rattle.machine.specs.ForCode.Answers.{part_of, went_of, Does};
+ghost use Rattle.machine.specs.ForCode.Answers.{went_of, Does};
 ghost use Rattle.machine.specs.States.{state_of};
 
-use crate::memory::{put, read};
-use crate::outcome::{Cause, Part, Registers, Went};
+use crate::memory::{in_core, read};
+use crate::outcome::{Cause, Registers};
+use word::cell_address;
 
 // A word whose flag is on.
-fn control(core: &[u64], m: usize) -> Part
+#[tactic(auto, unfolding(crate::specs::Marks::control_of, crate::proofs::Calculus::branching))]
+fn control(core: &[u64], m: usize) -> Result<u64, Cause>
     ensures { part_of result ≡ control_of core.now m }
 {
-    let w = match read(core, m) {
-        Part::Word(w) => w,
-        Part::Stop(n) => {
-            return Part::Stop(n);
-        }
-    };
+    let w = read(core, m)?;
     if word::flag(w) {
-        return Part::Word(w);
+        Ok(w)
+    } else {
+        Err(Cause::Flag)
     }
-    Part::Stop(Cause::Flag)
 }
 
 // The MSCW at m; S becomes the address below it, so m is not 0.
-fn mark_at(core: &[u64], m: usize) -> Part
-    ensures { part_of result ≡ mark_at_of core.now m }
+#[tactic(auto, unfolding(crate::specs::Marks::mark_at_of, crate::proofs::Calculus::branching))]
+fn mark_at(core: &[u64], m: usize) -> Result<u64, Cause>
+    ensures same { part_of result ≡ mark_at_of core.now m }
+    ensures above { IfOk result (λ w. 1 ≤ m) }
 {
     if m == 0 {
-        return Part::Stop(Cause::Address);
+        Err(Cause::Address)
+    } else {
+        control(core, m)
     }
-    control(core, m)
 }
 
 // The last word of the chain of F fields from m, within 32,768 reads.
-fn chain(core: &[u64], m: usize) -> Part
+#[tactic(auto, unfolding(crate::proofs::Calculus::branching), using(crate::proofs::Exits::chains))]
+fn chain(core: &[u64], m: u16) -> Result<u64, Cause>
     ensures { part_of result ≡ chain_of 32768 core.now m }
 {
     let mut at = m;
-    let mut reads: u64 = 32768;
-    while 0 < reads {
-        let w = match read(core, at) {
-            Part::Word(w) => w,
-            Part::Stop(n) => {
-                return Part::Stop(n);
-            }
-        };
-        if word::mscw_msff(w) {
-            at = word::f_field(w) as usize;
-            reads -= 1;
-        } else {
-            return Part::Word(w);
+    for _ in 0..32768u16 {
+        let w = read(core, at as usize)?;
+        if !word::mscw_msff(w) {
+            return Ok(w);
         }
+        at = word::f_field(w);
     }
-    Part::Stop(Cause::Address)
+    Err(Cause::Address)
 }
 
 // The registers as the RCW, at F, and the MSCW, at its F field, give them.
-fn leave(core: &[u64], g: Registers) -> Went
+#[tactic(auto, unfolding(crate::specs::Marks::leave_of, crate::proofs::Calculus::branching))]
+fn leave(core: &[u64], g: Registers) -> Result<Registers, Cause>
     ensures { went_of core.now result ≡ leave_of (state_of core.now g) }
 {
-    let rcw = match control(core, g.f as usize) {
-        Part::Word(w) => w,
-        Part::Stop(n) => {
-            return Went::Stop(n);
-        }
-    };
+    let rcw = control(core, g.f as usize)?;
     let m = word::f_field(rcw);
-    let mscw = match mark_at(core, m as usize) {
-        Part::Word(w) => w,
-        Part::Stop(n) => {
-            return Went::Stop(n);
-        }
-    };
-    let mut h = g;
-    h.a = 0;
-    h.afull = false;
-    h.b = 0;
-    h.bfull = false;
-    h.c = word::rcw_c(rcw);
-    h.l = word::rcw_l(rcw);
-    h.r = word::mscw_r(mscw);
-    h.salf = word::mscw_salf(mscw);
-    h.msff = word::mscw_msff(mscw);
-    h.f = word::f_field(mscw);
-    h.s = m - 1;
-    Went::On(h)
+    let mscw = mark_at(core, m as usize)?;
+    Ok(Registers {
+        a: 0,
+        afull: false,
+        b: 0,
+        bfull: false,
+        s: m - 1,
+        f: word::f_field(mscw),
+        c: word::rcw_c(rcw),
+        r: word::mscw_r(mscw),
+        l: word::rcw_l(rcw),
+        salf: word::mscw_salf(mscw),
+        msff: word::mscw_msff(mscw),
+    })
 }
 
 // Where both flags came back on, the last mark of the chain is written at 64R+7.
-fn restore(core: &mut [u64], g: Registers) -> Went
+#[tactic(auto, unfolding(crate::specs::Marks::restore_of, crate::specs::Memory::store_of, crate::proofs::Calculus::branching))]
+fn restore(core: &mut [u64], g: Registers) -> Result<Registers, Cause>
     ensures { Does core.old core.new result (restore_of (state_of core.old g)) }
 {
-    if g.msff & g.salf {
-        let w = match chain(&core[..], g.f as usize) {
-            Part::Word(w) => w,
-            Part::Stop(n) => {
-                return Went::Stop(n);
-            }
-        };
-        let m = 64 * g.r as usize + 7;
-        if m < core.len() {
-            put(core, true, m, w);
-            return Went::On(g);
-        }
-        return Went::Stop(Cause::Address);
+    if g.msff && g.salf {
+        let w = chain(core, g.f)?;
+        let m = in_core(core.len(), cell_address(g.r, 7))?;
+        core[m] = w;
     }
-    Went::On(g)
+    Ok(g)
 }
 
-pub fn xit(core: &mut [u64], g: Registers) -> Went
+#[tactic(auto, unfolding(crate::specs::Marks::xit_of, crate::proofs::Calculus::branching))]
+pub fn xit(core: &mut [u64], g: Registers) -> Result<Registers, Cause>
     ensures { Does core.old core.new result (xit_of (state_of core.old g)) }
 {
     if g.salf {
-        match leave(&core[..], g) {
-            Went::On(h) => {
-                return restore(core, h);
-            }
-            Went::Stop(n) => {
-                return Went::Stop(n);
-            }
-        }
+        let h = leave(core, g)?;
+        restore(core, h)
+    } else {
+        Ok(g)
     }
-    Went::On(g)
 }

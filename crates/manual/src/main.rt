@@ -2,7 +2,6 @@
 // Syllables, words and fields are octal; the values of the octades are decimal, as the manual prints them.
 #![tactic(auto)]
 
-mod say;
 mod syllables;
 mod words;
 

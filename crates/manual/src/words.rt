@@ -1,136 +1,102 @@
 // Words: the octades of paragraph 2-14, the bound of an operand, and the formats of paragraphs 5-27, 5-29 and 5-31.
-use crate::say;
-use std::io;
-use word::{Kind, Made, Reading, Whole};
+use std::{fmt, io};
+use word::Kind;
 
 // Whether an operand is read back as the number that it was made of.
-fn back(rt: &impl Print, w: u64, v: i64) -> io::Result<()> {
+fn back(w: u64, v: i64) -> &'static str {
     match word::whole_of(w) {
-        Whole::Number(u) => {
-            if u == v {
-                say::text(rt, b", read back\n")
-            } else {
-                say::text(rt, b", read back as another\n")
-            }
-        }
-        Whole::NotWhole => say::text(rt, b", not whole\n"),
+        Some(u) if u == v => "read back",
+        Some(_) => "read back as another",
+        None => "not whole",
     }
 }
 
-fn operand(rt: &impl Print, v: i64) -> io::Result<()> {
+// The operand of a number that is written as `name`.
+fn operand(rt: &impl Print, name: impl fmt::Display + Drop, v: i64) -> io::Result<()> {
     match word::operand_of(v) {
-        Made::Word(w) => {
-            say::text(rt, b" is the operand ")?;
-            say::whole_word(rt, w)?;
-            back(rt, w, v)
+        Some(w) => {
+            let back = back(w, v);
+            println!(rt; "{name} is the operand {w:016o}, {back}")
         }
-        Made::PastWhole => say::text(rt, b" is past 39 bits\n"),
+        None => println!(rt; "{name} is past 39 bits"),
     }
-}
-
-// A word has 48 bits, so its number is no negative i64.
-fn number(n: u64) -> i64 {
-    (n % 281474976710656) as i64
 }
 
 // Of fourteen octal digits the one at this place is 1, the others are 0.
 fn octade(rt: &impl Print, at: usize) -> io::Result<()> {
     let mut digits = [0u8; 14];
     digits[at % 14] = 1;
-    match word::from_digits(&digits, 8) {
-        Reading::Number(n) => {
-            say::decimal(rt, n)?;
-            operand(rt, number(n))
-        }
-        Reading::Refused => say::text(rt, b"no word\n"),
+    match word::from_digits(&digits, 8).and_then(|n| i64::try_from(n).ok()) {
+        Some(n) => operand(rt, n, n),
+        None => println!(rt; "no word"),
     }
 }
 
 pub fn octades(rt: &impl Print) -> io::Result<()> {
-    say::text(rt, b"Octades\n")?;
-    octade(rt, 13)?;
-    octade(rt, 12)?;
-    octade(rt, 11)?;
-    octade(rt, 10)?;
-    octade(rt, 9)?;
-    octade(rt, 8)?;
-    octade(rt, 7)?;
-    octade(rt, 6)?;
-    octade(rt, 5)?;
-    octade(rt, 4)?;
-    octade(rt, 3)?;
-    octade(rt, 2)?;
-    octade(rt, 1)?;
-    octade(rt, 0)
+    println!(rt; "Octades")?;
+    for at in (0..14).rev() {
+        octade(rt, at)?;
+    }
+    Ok(())
 }
 
 pub fn bound(rt: &impl Print) -> io::Result<()> {
-    say::text(rt, b"Operand bound\n2^39-1")?;
-    operand(rt, 549755813887)?;
-    say::text(rt, b"2^39")?;
-    operand(rt, 549755813888)?;
-    say::text(rt, b"-(2^39-1)")?;
-    operand(rt, -549755813887)?;
-    say::text(rt, b"-2^39")?;
-    operand(rt, -549755813888)
+    println!(rt; "Operand bound")?;
+    operand(rt, "2^39-1", 549755813887)?;
+    operand(rt, "2^39", 549755813888)?;
+    operand(rt, "-(2^39-1)", -549755813887)?;
+    operand(rt, "-2^39", -549755813888)
 }
 
-fn kind(rt: &impl Print, w: u64) -> io::Result<()> {
+// A Display cannot be written here for another crate's type.
+fn kind(w: u64) -> &'static str {
     match word::kind_of(w) {
-        Kind::Operand => say::text(rt, b", an operand\n"),
-        Kind::Data => say::text(rt, b", a data descriptor\n"),
-        Kind::Program => say::text(rt, b", a program descriptor\n"),
-        Kind::Control => say::text(rt, b", a control word\n"),
+        Kind::Operand => "an operand",
+        Kind::Data => "a data descriptor",
+        Kind::Program => "a program descriptor",
+        Kind::Control => "a control word",
     }
 }
 
 // A word's name, its digits and its kind.
-fn heading(rt: &impl Print, name: &[u8], w: u64) -> io::Result<()> {
-    say::text(rt, name)?;
-    say::whole_word(rt, w)?;
-    kind(rt, w)
+fn heading(rt: &impl Print, name: &str, w: u64) -> io::Result<()> {
+    let kind = kind(w);
+    println!(rt; "{name} {w:016o}, {kind}")
+}
+
+// A field of one bit; a Display cannot be written here for `bool`.
+fn flag(on: bool) -> &'static str {
+    if on { "on" } else { "off" }
 }
 
 pub fn mark_stack(rt: &impl Print) -> io::Result<()> {
     let w = word::mscw(0o525, true, false, 0o12345);
-    heading(rt, b"MSCW ", w)?;
-    say::text(rt, b"R ")?;
-    say::syllable(rt, word::mscw_r(w))?;
-    say::text(rt, b", MSFF ")?;
-    say::flag(rt, word::mscw_msff(w))?;
-    say::text(rt, b", SALF ")?;
-    say::flag(rt, word::mscw_salf(w))?;
-    say::text(rt, b", F ")?;
-    say::address(rt, word::f_field(w))?;
-    say::text(rt, b"\n")
+    heading(rt, "MSCW", w)?;
+    let r = word::mscw_r(w);
+    let msff = flag(word::mscw_msff(w));
+    let salf = flag(word::mscw_salf(w));
+    let f = word::f_field(w);
+    println!(rt; "R {r:04o}, MSFF {msff}, SALF {salf}, F {f:05o}")
 }
 
 pub fn program(rt: &impl Print) -> io::Result<()> {
     let w = word::program(true, false, true, 0o23456, 0o34567);
-    heading(rt, b"Program descriptor ", w)?;
-    say::text(rt, b"presence ")?;
-    say::flag(rt, word::presence(w))?;
-    say::text(rt, b", mode ")?;
-    say::flag(rt, word::mode(w))?;
-    say::text(rt, b", argument ")?;
-    say::flag(rt, word::argument(w))?;
-    say::text(rt, b", F ")?;
-    say::address(rt, word::f_field(w))?;
-    say::text(rt, b", address ")?;
-    say::address(rt, word::address(w))?;
-    say::text(rt, b"\n")
+    heading(rt, "Program descriptor", w)?;
+    let presence = flag(word::presence(w));
+    let mode = flag(word::mode(w));
+    let argument = flag(word::argument(w));
+    let f = word::f_field(w);
+    let address = word::address(w);
+    print!(rt; "presence {presence}, mode {mode}, argument {argument}, ")?;
+    println!(rt; "F {f:05o}, address {address:05o}")
 }
 
 pub fn return_control(rt: &impl Print) -> io::Result<()> {
     let w = word::rcw(true, 2, 0o45671, 0o56712);
-    heading(rt, b"RCW ", w)?;
-    say::text(rt, b"descriptor call ")?;
-    say::flag(rt, word::rcw_call(w))?;
-    say::text(rt, b", L ")?;
-    say::digit(rt, word::rcw_l(w))?;
-    say::text(rt, b", F ")?;
-    say::address(rt, word::f_field(w))?;
-    say::text(rt, b", C ")?;
-    say::address(rt, word::rcw_c(w))?;
-    say::text(rt, b"\n")
+    heading(rt, "RCW", w)?;
+    let call = flag(word::rcw_call(w));
+    let l = word::rcw_l(w);
+    let f = word::f_field(w);
+    let c = word::rcw_c(w);
+    println!(rt; "descriptor call {call}, L {l}, F {f:05o}, C {c:05o}")
 }

@@ -2,7 +2,6 @@
 #![tactic(auto)]
 
 use std::io;
-use trial::Outcome;
 
 fn main(rt: HostRuntime) -> io::Result<()> {
     let mut core = [0u64; 4096];
@@ -17,11 +16,7 @@ fn main(rt: HostRuntime) -> io::Result<()> {
     // Cell 10 counts down from 100,000, and cell 9 is the sum of the counts.
     core[74] = 100000;
     let sum = trial::run_from_start(&mut core, 1000000);
-    say(&rt, Outcome::Ended(sum))
-}
-
-fn say(rt: &impl Print, t: Outcome) -> io::Result<()> {
     let mut room = [0u8; 128];
-    let k = trial::line(t, &mut room);
-    rt.write_all(&room[..k])
+    let length = trial::line(Ok(sum), &mut room);
+    rt.write_all(&room[..length])
 }

@@ -2,15 +2,16 @@
 #![tactic(auto)]
 
 ghost use Rattle.std.specs.Prelude.{◌≡◌};
-ghost use Rattle.machine.specs.Steps.{step_of, answered};
+ghost use Rattle.machine.specs.Steps.{step_of};
+ghost use Rattle.panel.specs.Panels.{moved_by};
 
-use machine::Registers;
+use machine::{End, Refusal, Registers};
 
-// Copies the registers out, steps, writes them back; the answer is the step's number.
-pub fn step_panel(core: &mut [u64], g: &mut Registers) -> u64
-    ensures { answered (record { number = result; regs = g.new }) core.new ≡ step_of core.old g.old }
+// Copies the registers out, steps, writes them back; a refusal leaves them.
+pub fn step_panel(core: &mut [u64], g: &mut Registers) -> Result<End, Refusal>
+    ensures { moved_by result g.new core.new ≡ step_of core.old g.old }
 {
-    let a = machine::step(core, *g);
+    let a = machine::step(core, *g)?;
     *g = a.regs;
-    a.number
+    Ok(a.end)
 }

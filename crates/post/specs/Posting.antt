@@ -4,10 +4,15 @@ use Rattle.word.specs.Choices.{if◌then◌otherwise◌}
 use Rattle.machine.specs.declared.outcome.Registers.{Registers}
 use Rattle.machine.specs.States.{State, no_registers}
 use Rattle.machine.specs.Runs.{Run, run_from}
-use Rattle.inspector.specs.Verdicts.{verdict_of}
+use Rattle.inspector.specs.Verdicts.{verdict_of, broken_number, broken_place}
 use Rattle.demands.specs.Stays.{start_of, Reaches, Stays}
 use Rattle.demands.specs.Leaves.{Leaves}
-use Rattle.post.specs.declared.Posted.{Posted}
+use Rattle.machine.specs.declared.outcome.Ran.{Ran}
+use Rattle.machine.specs.Steps.{end_number}
+use Rattle.post.specs.declared.PostError.{PostError}
+use Rattle.post.specs.declared.PostError.TheVariants.{Broken, Budget}
+use Rattle.std.specs.declared.result.Result.{Result}
+use Rattle.std.specs.declared.result.Result.TheVariants.{Ok, Err}
 
 -- The inspector's number and place; where they are 0, 5 for a budget over 1,000,000; the run's stop, its completed syllables and registers.
 pub record Posting : Type 0 where
@@ -30,9 +35,18 @@ post_of core sheet budget =
     if eqb (verdict_of core sheet).number 0 then (if leb budget 1000000 then ran (run_from budget (start_of core sheet)) otherwise turned_away 5 0 core)
     otherwise turned_away (verdict_of core sheet).number (verdict_of core sheet).place core
 
+abbrev pub post_error_number : PostError → ℕ
+post_error_number (Broken b) = broken_number b
+post_error_number Budget = 5
+
+abbrev pub post_error_place : PostError → ℕ
+post_error_place (Broken b) = broken_place b
+post_error_place Budget = 0
+
 -- A posting's answer with the core that it left.
-abbrev pub posted_of : Posted → List ℕ → Posting
-posted_of r core = record { number = r.number; place = r.place; stop = r.stop; completed = r.completed; core = core; regs = r.regs }
+abbrev pub posted_of : Result Ran PostError → List ℕ → Posting
+posted_of (Ok r) core = record { number = 0; place = 0; stop = end_number r.end; completed = r.completed; core = core; regs = r.regs }
+posted_of (Err e) core = turned_away (post_error_number e) (post_error_place e) core
 
 -- What every posting guarantees: turned away, the core is as it was; else the stop is 0, 15, 17, 20 or 21, words outside the sheet's are
 -- as they were, and named cells and arrays are plain; and throughout, every state that the steps from the start reach stays inside the sheet.

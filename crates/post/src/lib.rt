@@ -1,55 +1,53 @@
 // Posting: a segment is inspected and, where it passed, run from the sheet's start.
 #![tactic(auto)]
 
-ghost use Rattle.std.specs.Prelude.{◌≡◌, List, ℕ, ◌+◌, ◌*◌, ◌<◌, get_or};
-ghost use Rattle.machine.specs.States.{no_registers};
+ghost use Rattle.std.specs.Prelude.{◌≡◌, List, ℕ};
 ghost use Rattle.demands.specs.Stays.{start_of};
-ghost use Rattle.post.specs.Posting.{turned_away, posted_of, Posts};
+ghost use Rattle.post.specs.Posting.{posted_of, post_error_number, post_error_place, Posts};
+ghost use Rattle.post.specs.declared.PostError.TheVariants.{Broken as Breaks};
 
-use machine::Registers;
+use inspector::Broken;
+use machine::{Ran, Registers};
+use sheet::entry_at;
 
-// The number and place of the inspector, or 5; the stop, the syllables completed and the registers of the run.
-#[derive(Clone, Copy)]
-pub struct Posted {
-    pub number: u64,
-    pub place: u64,
-    pub stop: u64,
-    pub completed: u64,
-    pub regs: Registers,
+// Why a segment is not run.
+#[derive(Clone, Copy, Debug, PartialEq, Eq)]
+pub enum PostError {
+    // 1, 2, 30 to 35: the inspector's number, at its place.
+    Broken(Broken),
+    // 5: a budget over 1,000,000. A passed segment's start is refused for nothing else.
+    Budget,
 }
 
-// A byte of the sheet, 0 past its end.
-fn byte(sheet: &[u8], at: usize) -> u16
-    ensures { (result ≡ get_or sheet.now at 0) × (result < 256) }
-{
-    if at < sheet.len() {
-        return sheet[at] as u16;
+impl PostError {
+    // The inspector's place, or 0.
+    pub fn place(self) -> u64
+        ensures { result ≡ post_error_place self }
+    {
+        match self {
+            PostError::Broken(broken) => broken.place(),
+            PostError::Budget => 0,
+        }
     }
-    0
 }
 
-// Two bytes of the sheet, highest first.
-fn pair(sheet: &[u8], high: usize, low: usize) -> u16
-    ensures { result ≡ 256 * get_or sheet.now high 0 + get_or sheet.now low 0 }
-{
-    256 * byte(sheet, high) + byte(sheet, low)
+// The number given back.
+impl From<PostError> for u64 {
+    ghost from_gives = { λ e n. n ≡ post_error_number e };
+
+    fn from(why: PostError) -> u64 {
+        match why {
+            PostError::Broken(broken) => u64::from(broken),
+            PostError::Budget => 5,
+        }
+    }
 }
 
-fn no_registers() -> Registers
-    ensures { result ≡ no_registers }
-{
-    Registers {
-        a: 0,
-        afull: false,
-        b: 0,
-        bfull: false,
-        s: 0,
-        f: 0,
-        c: 0,
-        r: 0,
-        l: 0,
-        salf: false,
-        msff: false,
+impl From<Broken> for PostError {
+    ghost from_gives = { λ why e. e ≡ Breaks why };
+
+    fn from(why: Broken) -> PostError {
+        PostError::Broken(why)
     }
 }
 
@@ -57,45 +55,19 @@ fn no_registers() -> Registers
 fn start(sheet: &[u8]) -> Registers
     ensures { (core : List ℕ) → result ≡ (start_of core sheet.now).regs }
 {
-    let mut g = no_registers();
-    g.c = pair(sheet, 2, 3);
-    g.s = pair(sheet, 8, 9);
-    g.r = pair(sheet, 14, 15);
-    g
-}
-
-fn turned_away(number: u64, place: u64) -> Posted
-    ensures { (core : List ℕ) → posted_of result core ≡ turned_away number place core }
-{
-    let regs = no_registers();
-    Posted {
-        number,
-        place,
-        stop: 0,
-        completed: 0,
-        regs,
+    Registers {
+        s: entry_at(sheet, 1).first,
+        c: entry_at(sheet, 0).first,
+        r: entry_at(sheet, 2).first,
+        ..Registers::default()
     }
 }
 
 // Inspects a segment and, where it passed, runs it from the sheet's start; a refusal leaves the core as it was.
-pub fn post(core: &mut [u64], sheet: &[u8], budget: u64) -> Posted
+#[tactic(auto, using(crate::proofs::Postings::posts_away))]
+pub fn post(core: &mut [u64], sheet: &[u8], budget: u64) -> Result<Ran, PostError>
     ensures { Posts core.old sheet.now budget (posted_of result core.new) }
 {
-    let v = inspector::inspect(&core[..], sheet);
-    if v.number == 0 {
-        if budget <= 1000000 {
-            let g = start(sheet);
-            let r = machine::run(core, g, budget);
-            let regs = r.regs;
-            return Posted {
-                number: 0,
-                place: 0,
-                stop: r.stop,
-                completed: r.completed,
-                regs,
-            };
-        }
-        return turned_away(5, 0);
-    }
-    turned_away(v.number, v.place)
+    inspector::inspect(&core[..], sheet)?;
+    machine::run(core, start(sheet), budget).or(Err(PostError::Budget))
 }

@@ -12,32 +12,36 @@ use std::env::Env;
 use std::fs::File;
 use std::io;
 use std::rt::Files;
-use wording::Command;
+use wording::{Command, CommandError, Status};
 
+// The status is the last line, and not what `main` returns: an error of the output ends it too.
 fn main(rt: HostRuntime) -> io::Result<()> {
-    let mut word = [0u8; 16];
-    let n = options::short(&rt, 1, &mut word);
-    let status = obey(&rt, wording::command_of(&word[..n], options::count(&rt)))?;
-    println!(rt; "status {status}")
+    let mut room = [0u8; 16];
+    let word = options::short(&rt, 1, &mut room);
+    let status = obey(&rt, wording::command_of(word, options::count(&rt)))?;
+    println!(rt; "status {}", u64::from(status))
 }
 
-fn obey<R: Files<File = File> + Env + Print + Eprint>(rt: &R, c: Command) -> io::Result<u64> {
-    match c {
-        Command::Run => segments::run(rt),
-        Command::Inspect => segments::inspect(rt),
-        Command::Help => {
+fn obey<R: Files<File = File> + Env + Print + Eprint>(
+    rt: &R,
+    command: Result<Command, CommandError>,
+) -> io::Result<Status> {
+    match command {
+        Ok(Command::Run) => segments::run(rt),
+        Ok(Command::Inspect) => segments::inspect(rt),
+        Ok(Command::Help) => {
             rt.print(say::USAGE)?;
-            Ok(0)
+            Ok(Status::Done)
         }
-        Command::Unknown => {
+        Err(CommandError::Unknown) => {
             eprintln!(rt; "runner: the first argument is run, inspect or help")?;
             rt.eprint(say::USAGE)?;
-            Ok(2)
+            Ok(Status::Undone)
         }
-        Command::Miscounted => {
+        Err(CommandError::Miscounted) => {
             eprintln!(rt; "runner: too few or too many arguments")?;
             rt.eprint(say::USAGE)?;
-            Ok(2)
+            Ok(Status::Undone)
         }
     }
 }

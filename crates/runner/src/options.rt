@@ -1,16 +1,10 @@
 // The arguments: how many there are, a short one, and the budget among them.
-ghost use Rattle.std.specs.Prelude.{◌≤◌, length};
-
 use std::env::{Env, FillError};
 use std::io;
-use wording::FromText;
+use wording::NumberError;
 
-// What is asked for.
-#[derive(Drop)]
-pub enum Asked {
-    Of(u64),
-    Wrong,
-}
+// The budget where none is given, and the largest.
+const BUDGET: u32 = 1000000;
 
 // How many arguments there are, the program's own name among them.
 pub fn count(rt: &impl Env) -> usize {
@@ -22,33 +16,26 @@ pub fn count(rt: &impl Env) -> usize {
     usize::MAX
 }
 
-// Puts an argument at the start of buf, and answers its length: 0 where there is none, or where it is longer than buf.
-pub fn short(rt: &impl Env, at: usize, buf: &mut [u8]) -> usize
-    ensures { result ≤ length buf.new }
-{
-    match rt.arg(at, buf) {
-        Ok(n) => n,
-        Err(_) => 0,
+// An argument, put into room: empty where there is none, or where it is longer than room.
+pub fn short<'a>(rt: &impl Env, at: usize, room: &'a mut [u8]) -> &'a [u8] {
+    match rt.arg(at, room) {
+        Ok(n) => &room[..n],
+        Err(_) => &[],
     }
 }
 
-fn read(rt: &impl Env) -> FromText {
-    let mut text = [0u8; 64];
-    let n = short(rt, 4, &mut text);
-    wording::number_of(&text[..n], 10, 1000000)
-}
-
-// The budget: 1,000,000 where none is given; one that is larger is handed on, and refused with 5 in its turn.
-pub fn budget(rt: &(impl Env + Eprint)) -> io::Result<Asked> {
+// The budget; one that is too large is handed on, and refused with 5 in its turn. None, with a complaint, where it is no number.
+pub fn budget(rt: &(impl Env + Eprint)) -> io::Result<Option<u64>> {
     if count(rt) < 5 {
-        return Ok(Asked::Of(1000000));
+        return Ok(Some(u64::from(BUDGET)));
     }
-    match read(rt) {
-        FromText::Number(n) => Ok(Asked::Of(n)),
-        FromText::Over => Ok(Asked::Of(1000001)),
-        FromText::Wrong => {
+    let mut room = [0u8; 64];
+    match wording::number_of(short(rt, 4, &mut room), 10, BUDGET) {
+        Ok(n) => Ok(Some(n)),
+        Err(NumberError::Over) => Ok(Some(u64::from(BUDGET) + 1)),
+        Err(NumberError::Wrong) => {
             eprintln!(rt; "runner: the budget is not a number")?;
-            Ok(Asked::Wrong)
+            Ok(None)
         }
     }
 }

@@ -1,48 +1,108 @@
 // What came of a segment, in words.
-use crate::say;
-use post::Posted;
+use inspector::Broken;
+use machine::{Cause, End, Ran};
+use post::PostError;
 use std::io;
-use syllable::Syllable;
-use wording::Signed;
+use syllable::{Syllable, Table};
+use tape::{ReadError, WriteError};
+use word::CoreError;
+use wording::RecordKind;
 
-pub fn passes(rt: &impl Print) -> io::Result<()> {
-    println!(rt; "passes")
+// Why a segment is refused: by its core file, by its posting, or by the core that the run left.
+#[derive(Clone, Copy)]
+pub enum Reason {
+    Read(ReadError),
+    Post(PostError),
+    Write(WriteError),
+}
+
+impl From<ReadError> for Reason {
+    fn from(why: ReadError) -> Reason {
+        Reason::Read(why)
+    }
+}
+
+impl From<Broken> for Reason {
+    fn from(why: Broken) -> Reason {
+        Reason::Post(PostError::Broken(why))
+    }
+}
+
+impl From<PostError> for Reason {
+    fn from(why: PostError) -> Reason {
+        Reason::Post(why)
+    }
+}
+
+impl From<WriteError> for Reason {
+    fn from(why: WriteError) -> Reason {
+        Reason::Write(why)
+    }
+}
+
+// The number that refuses.
+impl From<Reason> for u64 {
+    fn from(why: Reason) -> u64 {
+        match why {
+            Reason::Read(why) => u64::from(why),
+            Reason::Post(why) => u64::from(why),
+            Reason::Write(why) => u64::from(why),
+        }
+    }
 }
 
 // The number, what it means, and where.
-pub fn refused(
-    rt: &impl Print,
-    core: &[u64],
-    sheet: &[u8],
-    number: u64,
-    place: u64,
-) -> io::Result<()> {
-    let words = meaning(number);
+pub fn refused(rt: &impl Print, core: &[u64], sheet: &[u8], why: Reason) -> io::Result<()> {
+    let number = u64::from(why);
+    let words = meaning(why);
     println!(rt; "refused: {number}{words}")?;
-    match number {
-        31 => record(rt, sheet, place),
-        32 => record(rt, sheet, place),
-        33 => println!(rt; "cell {place}"),
-        34 => spot(rt, core, sheet, place),
-        35 => spot(rt, core, sheet, place),
+    match why {
+        Reason::Post(PostError::Broken(broken)) => place(rt, core, sheet, broken),
         _ => Ok(()),
     }
 }
 
-// The paper's words for a number that refuses.
-fn meaning(number: u64) -> &'static str {
-    match number {
-        1 => ", core length 0 or over 32,768",
-        2 => ", a core word at or above 2^48",
-        4 => ", core file length not a multiple of 6",
-        5 => ", budget over 1,000,000",
-        30 => ", sheet length not 6 times 3 to 1,027",
-        31 => ", first bad record",
-        32 => ", code, stack words or table outside core, or two of them meeting",
-        33 => ", lowest named cell unfit",
-        34 => ", first syllable breaking the scan",
-        35 => ", lowest branch whose target is outside the code or has a shape not empty",
-        _ => "",
+fn place(rt: &impl Print, core: &[u64], sheet: &[u8], broken: Broken) -> io::Result<()> {
+    match broken {
+        Broken::Core(_) | Broken::Length => Ok(()),
+        Broken::Record(at) | Broken::Area(at) => record(rt, sheet, at),
+        Broken::Cell(at) => println!(rt; "cell {at}"),
+        Broken::Syllable(at) | Broken::Target(at) => spot(rt, core, sheet, at),
+    }
+}
+
+// The paper's words for what refuses: no Display, which cannot be written here for another crate's type.
+fn meaning(why: Reason) -> &'static str {
+    match why {
+        Reason::Read(ReadError::Records) | Reason::Write(WriteError::Room) => {
+            ", core file length not a multiple of 6"
+        }
+        Reason::Read(ReadError::Length) => no_core(CoreError::Length),
+        Reason::Write(WriteError::Core(why)) => no_core(why),
+        Reason::Post(PostError::Broken(broken)) => rule(broken),
+        Reason::Post(PostError::Budget) => ", budget over 1,000,000",
+    }
+}
+
+// Why a core is none.
+fn no_core(why: CoreError) -> &'static str {
+    match why {
+        CoreError::Length => ", core length 0 or over 32,768",
+        CoreError::Word => ", a core word at or above 2^48",
+    }
+}
+
+fn rule(broken: Broken) -> &'static str {
+    match broken {
+        Broken::Core(why) => no_core(why),
+        Broken::Length => ", sheet length not 6 times 3 to 1,027",
+        Broken::Record(_) => ", first bad record",
+        Broken::Area(_) => ", code, stack words or table outside core, or two of them meeting",
+        Broken::Cell(_) => ", lowest named cell unfit",
+        Broken::Syllable(_) => ", first syllable breaking the scan",
+        Broken::Target(_) => {
+            ", lowest branch whose target is outside the code or has a shape not empty"
+        }
     }
 }
 
@@ -51,85 +111,71 @@ fn record(rt: &impl Print, sheet: &[u8], place: u64) -> io::Result<()> {
     println!(rt; "record {place}{words}")
 }
 
-fn kind(k: u64) -> &'static str {
+// A Display cannot be written here for another crate's type.
+fn kind(k: RecordKind) -> &'static str {
     match k {
-        1 => ", code words",
-        2 => ", starting S and room",
-        3 => ", number cells",
-        4 => ", array cells",
-        5 => ", R and table length",
-        _ => ", neither number cells nor array cells",
+        RecordKind::Code => ", code words",
+        RecordKind::Start => ", starting S and room",
+        RecordKind::Numbers => ", number cells",
+        RecordKind::Arrays => ", array cells",
+        RecordKind::Table => ", R and table length",
+        RecordKind::Other(_) => ", neither number cells nor array cells",
     }
 }
 
 fn spot(rt: &impl Print, core: &[u64], sheet: &[u8], place: u64) -> io::Result<()> {
     let at = wording::place_of(sheet, place);
-    print!(rt; "syllable {place}: word ")?;
-    say::address(rt, at.word)?;
-    let in_word = at.syllable;
-    print!(rt; ", syllable {in_word}")?;
-    let w = at.word as usize;
-    if w < core.len() {
-        named(rt, syllable::syllable_at(core[w], (at.syllable % 4) as u8))?;
+    print!(rt;
+        "syllable {place}: word {:04o}, syllable {}",
+        at.word, at.syllable
+    )?;
+    if let Some(w) = core.get(at.word as usize) {
+        named(rt, syllable::syllable_at(*w, at.syllable))?;
     }
     println!(rt; "")
 }
 
 // A syllable's name, and its number k where it has one.
 fn named(rt: &impl Print, y: u16) -> io::Result<()> {
-    print!(rt; ", ")?;
-    let name = wording::name_of(syllable::number(y));
-    if name[3] == b' ' {
-        return rt.write_all(&[name[0], name[1], name[2]]);
-    }
-    rt.write_all(&name)?;
-    match syllable::decode(y) {
-        Syllable::Litc(k) => number(rt, k),
-        Syllable::Opdc(k) => number(rt, k),
-        Syllable::Desc(k) => number(rt, k),
+    let table = Table::new();
+    let name = wording::name_of(table.number_of(y));
+    let letters = str::from_utf8(name.trim_ascii_end()).unwrap_or("");
+    print!(rt; ", {letters}")?;
+    match table.read(y) {
+        Syllable::Litc(k) | Syllable::Opdc(k) | Syllable::Desc(k) => print!(rt; " {k}"),
         Syllable::Operator(_) => Ok(()),
     }
 }
 
-fn number(rt: &impl Print, k: u16) -> io::Result<()> {
-    print!(rt; " {k}")
-}
-
 // The stop and what it means, the syllables completed, C and L, and on 17 the word communicated.
-pub fn ran(rt: &impl Print, core: &[u64], p: Posted) -> io::Result<()> {
-    let stop = p.stop;
-    let words = stopped(stop);
+pub fn ran(rt: &impl Print, core: &[u64], ran: Ran) -> io::Result<()> {
+    let stop = u64::from(ran.end);
+    let words = stopped(ran.end);
     println!(rt; "stop: {stop}{words}")?;
-    let completed = p.completed;
-    println!(rt; "completed: {completed}")?;
-    print!(rt; "C: ")?;
-    say::address(rt, p.regs.c as u64)?;
-    let l = p.regs.l;
-    println!(rt; "\nL: {l}")?;
-    if p.stop == 17 {
-        return told(rt, wording::communicated(core, p.regs.r));
+    println!(rt; "completed: {}", ran.completed)?;
+    println!(rt; "C: {:04o}", ran.regs.c)?;
+    println!(rt; "L: {}", ran.regs.l)?;
+    match ran.end {
+        End::Communicated => told(rt, wording::communicated(core, ran.regs.r)),
+        _ => Ok(()),
     }
-    Ok(())
 }
 
-// What a passed segment can stop with, in the paper's words.
-fn stopped(stop: u64) -> &'static str {
-    match stop {
-        0 => ", budget spent",
-        15 => ", index",
-        17 => ", communicate",
-        20 => ", number not whole 39-bit",
-        21 => ", zero divisor",
-        _ => "",
+// What a passed segment can stop with, in the paper's words: no Display, which cannot be written here for another crate's type.
+fn stopped(end: End) -> &'static str {
+    match end {
+        End::On => ", budget spent",
+        End::Communicated => ", communicate",
+        End::Stopped(Cause::Index) => ", index",
+        End::Stopped(Cause::Unwhole) => ", number not whole 39-bit",
+        End::Stopped(Cause::ZeroDivisor) => ", zero divisor",
+        End::Stopped(_) => "",
     }
 }
 
 fn told(rt: &impl Print, w: u64) -> io::Result<()> {
-    print!(rt; "communicated: ")?;
-    say::whole_word(rt, w)?;
-    match wording::signed_of(w) {
-        Signed::Plus(m) => println!(rt; ", {m}"),
-        Signed::Minus(m) => println!(rt; ", -{m}"),
-        Signed::NotWhole => println!(rt; ", not a whole number"),
+    match word::whole_of(w) {
+        Some(z) => println!(rt; "communicated: {w:016o}, {z}"),
+        None => println!(rt; "communicated: {w:016o}, not a whole number"),
     }
 }

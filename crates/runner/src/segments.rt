@@ -1,154 +1,138 @@
 // The commands: a segment is read, inspected, and with `run` posted and put back.
-ghost use Rattle.std.specs.Prelude.{◌≤◌, length};
-
+use crate::files::Got;
 use crate::looks::Look;
-use crate::options::Asked;
+use crate::report::Reason;
 use crate::{files, options, report};
-use post::Posted;
+use machine::Ran;
 use std::env::Env;
 use std::fs::File;
 use std::io;
 use std::rt::Files;
+use wording::Status;
 
-pub fn inspect<R: Files<File = File> + Env + Print + Eprint>(rt: &R) -> io::Result<u64> {
-    segment(rt, false, 0)
+// The longest core file and the longest sheet, in bytes.
+const CORE_MAX: usize = 196608;
+
+const SHEET_MAX: usize = 6162;
+
+// Room for both files, each with a byte more to see that one is too long, and for the core.
+#[derive(Drop)]
+struct Room {
+    bytes: [u8; CORE_MAX + 1],
+    sheet: [u8; SHEET_MAX + 1],
+    core: [u64; 32768],
 }
 
-pub fn run<R: Files<File = File> + Env + Print + Eprint>(rt: &R) -> io::Result<u64> {
-    match options::budget(rt)? {
-        Asked::Of(budget) => segment(rt, true, budget),
-        Asked::Wrong => Ok(2),
-    }
+const EMPTY: Room = Room {
+    bytes: [0; CORE_MAX + 1],
+    sheet: [0; SHEET_MAX + 1],
+    core: [0; 32768],
+};
+
+// A core file and what it is, its sheet, and room for the file's core.
+#[derive(Drop)]
+struct Segment<'a> {
+    bytes: &'a mut [u8],
+    look: Look,
+    sheet: &'a [u8],
+    core: &'a mut [u64],
 }
 
-// Reads both files: a byte more than the longest core file, to see that one is too long; a longer sheet is refused with 30.
-fn segment<R: Files<File = File> + Env + Print + Eprint>(
+// Reads both files; none, with a complaint, where that fails. A longer sheet is refused with 30.
+fn read<'a, R: Files<File = File> + Env + Eprint>(
     rt: &R,
-    runs: bool,
-    budget: u64,
-) -> io::Result<u64> {
-    let mut bytes = [0u8; 196609];
-    let got = files::read_argument(rt, 2, &mut bytes)?;
-    if got.read {
-        let n = files::within(got.count, &bytes);
-        if n <= 196608 {
-            let look = got.look;
-            return sheet_too(rt, runs, budget, look, &mut bytes[..n]);
-        }
+    room: &'a mut Room,
+) -> io::Result<Option<Segment<'a>>> {
+    let Room { bytes, sheet, core } = room;
+    let Some(Got { bytes, look }) = files::read_argument(rt, 2, bytes)? else {
+        return Ok(None);
+    };
+    if CORE_MAX < bytes.len() {
         files::complain_of(rt, 2, "over 32,768 words")?;
+        return Ok(None);
     }
-    Ok(2)
+    let Some(Got { bytes: sheet, .. }) = files::read_argument(rt, 3, sheet)? else {
+        return Ok(None);
+    };
+    let core = &mut core[..bytes.len() / 6];
+    Ok(Some(Segment {
+        bytes,
+        look,
+        sheet,
+        core,
+    }))
 }
 
-fn sheet_too<R: Files<File = File> + Env + Print + Eprint>(
-    rt: &R,
-    runs: bool,
-    budget: u64,
-    look: Look,
-    bytes: &mut [u8],
-) -> io::Result<u64> {
-    let mut sheet = [0u8; 6163];
-    let got = files::read_argument(rt, 3, &mut sheet)?;
-    if got.read {
-        let m = files::within(got.count, &sheet);
-        return core_of(rt, runs, budget, look, bytes, &sheet[..m]);
-    }
-    Ok(2)
+// Reads the core, and inspects it.
+fn inspected(bytes: &[u8], sheet: &[u8], core: &mut [u64]) -> Result<(), Reason> {
+    tape::read_file(bytes, core)?;
+    inspector::inspect(core, sheet)?;
+    Ok(())
 }
 
-fn core_of<R: Files<File = File> + Env + Print + Eprint>(
-    rt: &R,
-    runs: bool,
-    budget: u64,
-    look: Look,
-    bytes: &mut [u8],
-    sheet: &[u8],
-) -> io::Result<u64> {
-    let mut core = [0u64; 32768];
-    let words = words_within(bytes.len() / 6, &core);
-    read_core(rt, runs, budget, look, bytes, sheet, &mut core[..words])
+// Reads the core, posts it, and writes it over the file's bytes.
+fn posted(bytes: &mut [u8], sheet: &[u8], core: &mut [u64], budget: u64) -> Result<Ran, Reason> {
+    tape::read_file(bytes, core)?;
+    let ran = post::post(core, sheet, budget)?;
+    tape::write_file(core, bytes)?;
+    Ok(ran)
 }
 
-// A count of core's words; 0 where n is more than they are.
-fn words_within(n: usize, core: &[u64]) -> usize
-    ensures { result ≤ length core.now }
-{
-    if n <= core.len() {
-        return n;
-    }
-    0
-}
-
-fn read_core<R: Files<File = File> + Env + Print + Eprint>(
-    rt: &R,
-    runs: bool,
-    budget: u64,
-    look: Look,
-    bytes: &mut [u8],
-    sheet: &[u8],
-    core: &mut [u64],
-) -> io::Result<u64> {
-    let number = tape::read_file(&bytes[..], core);
-    if number == 0 {
-        if runs {
-            return post_core(rt, core, sheet, budget, look, bytes);
+pub fn inspect<R: Files<File = File> + Env + Print + Eprint>(rt: &R) -> io::Result<Status> {
+    let mut room = EMPTY;
+    let Some(
+        Segment {
+            bytes,
+            sheet,
+            core,
+            ..
+        },
+    ) = read(rt, &mut room)?
+    else {
+        return Ok(Status::Undone);
+    };
+    match inspected(bytes, sheet, core) {
+        Ok(()) => {
+            println!(rt; "passes")?;
+            Ok(wording::status_of(0, 0))
         }
-        return inspect_core(rt, &core[..], sheet);
+        Err(why) => refused(rt, core, sheet, why),
     }
-    report::refused(rt, &core[..], sheet, number, 0)?;
-    Ok(wording::status_of(number, 0))
 }
 
-fn inspect_core(rt: &impl Print, core: &[u64], sheet: &[u8]) -> io::Result<u64> {
-    let v = inspector::inspect(core, sheet);
-    if v.number == 0 {
-        report::passes(rt)?;
-    } else {
-        report::refused(rt, core, sheet, v.number, v.place)?;
+pub fn run<R: Files<File = File> + Env + Print + Eprint>(rt: &R) -> io::Result<Status> {
+    let Some(budget) = options::budget(rt)? else {
+        return Ok(Status::Undone);
+    };
+    let mut room = EMPTY;
+    let Some(
+        Segment {
+            bytes,
+            look,
+            sheet,
+            core,
+        },
+    ) = read(rt, &mut room)?
+    else {
+        return Ok(Status::Undone);
+    };
+    let ran = match posted(bytes, sheet, core, budget) {
+        Ok(ran) => ran,
+        Err(why) => return refused(rt, core, sheet, why),
+    };
+    if !files::put_argument(rt, output(rt), bytes, look)? {
+        return Ok(Status::Undone);
     }
-    Ok(wording::status_of(v.number, 0))
+    report::ran(rt, core, ran)?;
+    Ok(wording::status_of(0, u64::from(ran.end)))
 }
 
-fn post_core<R: Files<File = File> + Env + Print + Eprint>(
-    rt: &R,
-    core: &mut [u64],
-    sheet: &[u8],
-    budget: u64,
-    look: Look,
-    bytes: &mut [u8],
-) -> io::Result<u64> {
-    let p = post::post(core, sheet, budget);
-    if p.number == 0 {
-        return put_back(rt, &core[..], p, look, bytes);
-    }
-    report::refused(rt, &core[..], sheet, p.number, p.place)?;
-    Ok(wording::status_of(p.number, p.stop))
-}
-
-fn put_back<R: Files<File = File> + Env + Print + Eprint>(
-    rt: &R,
-    core: &[u64],
-    p: Posted,
-    look: Look,
-    bytes: &mut [u8],
-) -> io::Result<u64> {
-    let number = tape::write_file(core, bytes);
-    if number == 0 {
-        if files::put_argument(rt, output(rt), &bytes[..], look)? {
-            let status = wording::status_of(0, p.stop);
-            report::ran(rt, core, p)?;
-            return Ok(status);
-        }
-        return Ok(2);
-    }
-    report::refused(rt, core, &[], number, 0)?;
-    Ok(wording::status_of(number, 0))
+fn refused(rt: &impl Print, core: &[u64], sheet: &[u8], why: Reason) -> io::Result<Status> {
+    report::refused(rt, core, sheet, why)?;
+    Ok(wording::status_of(u64::from(why), 0))
 }
 
 // The argument that names the file to put in place.
 fn output(rt: &impl Env) -> usize {
-    if options::count(rt) < 6 {
-        return 2;
-    }
-    5
+    if options::count(rt) < 6 { 2 } else { 5 }
 }

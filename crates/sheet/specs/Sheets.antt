@@ -1,13 +1,8 @@
 -- The sheet: six-byte records, and what they name.
+pub use Rattle.sheet.specs.declared.Entry.{Entry}
 use Rattle.std.specs.Prelude.{ℕ, zero, suc, ◌+◌, ◌-◌, ◌*◌, ◌/◌, true, false, ◌&&◌, List, ltb, leb, length, get_or}
 
 -- "Six-byte records: kind, 0, first (2 bytes), count (2 bytes), highest byte first."
-pub record Entry : Type 0 where
-  pub kind : ℕ
-  pub gap : ℕ
-  pub first : ℕ
-  pub count : ℕ
-
 abbrev pub entry_at : List ℕ → ℕ → Entry
 entry_at sheet i =
     record {

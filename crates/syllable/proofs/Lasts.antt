@@ -1,13 +1,15 @@
--- From L=3 on, the syllable of a word is its last twelve bits.
+-- Twelve bits from 12 times the smaller of L and 3 on are the syllable: from L=3 on, the word's last twelve.
 -- Assumes nothing.
-use mathlib.Core.Path.{◌≡◌}
-use Prim.Native.Nat.{ℕ, ◌+◌, ◌*◌, ◌-◌, ◌/◌, ◌%◌, ◌≤◌}
+use mathlib.Core.Path.{◌≡◌, ◌∙◌, sym, ap₂}
+use Prim.Native.Nat.{ℕ, ◌+◌, ◌*◌, ◌-◌, ◌/◌, ◌%◌, ◌^◌, min}
 use native.Mathlib.Omega.{arith}
+use Rattle.word.proofs.Changes.{bits_yes}
+use Rattle.word.specs.Field.{bits_of}
 use Rattle.syllable.specs.Positions.{syllable_of}
 
-pub last_twelve : (w l : ℕ) → 3 ≤ l → w / 1 % 4096 ≡ syllable_of w l
+pub twelve : (w l : ℕ) → bits_of w (12 * min l 3) (12 * min l 3 + 11) ≡ syllable_of w l
 unfolding syllable_of
-last_twelve w l h =
-    let from : 47 - (12 * l + 11) ≡ 0 = omega arith in
-    let size : 12 * l + 11 + 1 - 12 * l ≡ 12 = omega arith in
-    rw (from, size)
+twelve w l =
+    let up : 47 - (12 * min l 3 + 11) ≡ 47 - (12 * l + 11) = omega arith in
+    let size : 12 * min l 3 + 11 + 1 - 12 * min l 3 ≡ 12 * l + 11 + 1 - 12 * l = omega arith in
+    sym (bits_yes w (12 * min l 3) (12 * min l 3 + 11) (omega arith) (omega arith)) ∙ ap₂ (λ (a b : ℕ). w / 2 ^ a % 2 ^ b) up size

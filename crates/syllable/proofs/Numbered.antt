@@ -33,11 +33,3 @@ by_kind y (suc (suc (suc r))) = refl
 pub decode_number : (y : ℕ) → decode_of y ≡ syllable_numbered (operator_number y) (y / 4)
 unfolding decode_of operator_number
 decode_number y = by_kind y (y % 4)
-
--- what the code of decode knows: n is the number of y, and then which one it is
-pub read_by : (y : ℕ) {n m : ℕ} → n ≡ operator_number y → n ≡ m → syllable_numbered m (y / 4) ≡ decode_of y
-read_by y e h = sym (decode_number y ∙ ap (λ (n : ℕ). syllable_numbered n (y / 4)) (sym e ∙ h))
-
-pub read_operator : (y : ℕ) {n : ℕ} {o : Operator} → n ≡ operator_number y → (n ≡ 37 → ⊥) → (n ≡ 38 → ⊥) → (n ≡ 39 → ⊥) →
-    o ≡ operator_numbered n (y / 4) → Operates o ≡ decode_of y
-read_operator y {n} e a b c r = ap Operates r ∙ operator_number_is n (y / 4) a b c ∙ read_by y e refl

@@ -2,19 +2,16 @@
 // A syllable has 12 bits: a larger number is taken modulo 4,096, and a number k of ten bits modulo 1,024.
 #![tactic(auto)]
 
-mod table;
+mod tables;
 
-ghost use Rattle.std.specs.Prelude.{◌≡◌, ◌%◌};
+ghost use Rattle.std.specs.Prelude.{◌≡◌};
 ghost use Rattle.syllable.specs.Codes.{operator_code};
-ghost use Rattle.syllable.specs.Decoding.{decode_of};
 ghost use Rattle.syllable.specs.Encoding.{encode_of};
-ghost use Rattle.syllable.specs.Numbers.{operator_number, operator_numbers};
 ghost use Rattle.syllable.specs.Positions.{syllable_of, advance_of};
-ghost use Rattle.syllable.specs.ForCode.Numbered.{operator_numbered};
 
-use table::NUMBERS;
+pub use tables::{Table, decode, number, numbers};
 
-#[derive(Clone, Copy)]
+#[derive(Clone, Copy, Debug, PartialEq, Eq)]
 pub enum Arithmetic {
     Add,
     Sub,
@@ -23,7 +20,7 @@ pub enum Arithmetic {
     Rdv,
 }
 
-#[derive(Clone, Copy)]
+#[derive(Clone, Copy, Debug, PartialEq, Eq)]
 pub enum Relation {
     Gtr,
     Geq,
@@ -33,7 +30,7 @@ pub enum Relation {
     Neq,
 }
 
-#[derive(Clone, Copy)]
+#[derive(Clone, Copy, Debug, PartialEq, Eq)]
 pub enum Logic {
     Lnd,
     Lor,
@@ -41,7 +38,7 @@ pub enum Logic {
     Lng,
 }
 
-#[derive(Clone, Copy)]
+#[derive(Clone, Copy, Debug, PartialEq, Eq)]
 pub enum Branch {
     Bfw,
     Bbw,
@@ -50,7 +47,7 @@ pub enum Branch {
 }
 
 // NotBuilt holds the number k of an operator syllable that the paper does not list.
-#[derive(Clone, Copy)]
+#[derive(Clone, Copy, Debug, PartialEq, Eq)]
 pub enum Operator {
     Arithmetic(Arithmetic),
     Relation(Relation),
@@ -76,7 +73,7 @@ pub enum Operator {
     NotBuilt(u16),
 }
 
-#[derive(Clone, Copy)]
+#[derive(Clone, Copy, Debug, PartialEq, Eq)]
 pub enum Syllable {
     Litc(u16),
     Opdc(u16),
@@ -85,84 +82,10 @@ pub enum Syllable {
 }
 
 // Where a syllable stands: in the word at c, the l-th.
-#[derive(Clone, Copy)]
+#[derive(Clone, Copy, Debug, PartialEq, Eq)]
 pub struct Position {
     pub c: u16,
     pub l: u8,
-}
-
-// The whole table. A constant is built anew at every use, so a run makes it once and lends it.
-pub fn numbers() -> [u8; 4096]
-    ensures { result ≡ operator_numbers }
-{
-    NUMBERS
-}
-
-// The operator number of a syllable, from the table.
-pub fn number(y: u16) -> u8
-    ensures { result ≡ operator_number (y % 4096) }
-{
-    let table = numbers();
-    let i = (y % 4096) as usize;
-    table[i]
-}
-
-// The operator of a number, and of k where the number is none of the 36.
-fn operator_at(n: u8, k: u16) -> Operator
-    ensures { result ≡ operator_numbered n k }
-{
-    match n {
-        1 => Operator::Arithmetic(Arithmetic::Add),
-        2 => Operator::Arithmetic(Arithmetic::Sub),
-        3 => Operator::Arithmetic(Arithmetic::Mul),
-        4 => Operator::Arithmetic(Arithmetic::Idv),
-        5 => Operator::Arithmetic(Arithmetic::Rdv),
-        6 => Operator::Relation(Relation::Gtr),
-        7 => Operator::Relation(Relation::Geq),
-        8 => Operator::Relation(Relation::Eql),
-        9 => Operator::Relation(Relation::Leq),
-        10 => Operator::Relation(Relation::Lss),
-        11 => Operator::Relation(Relation::Neq),
-        12 => Operator::Logic(Logic::Lnd),
-        13 => Operator::Logic(Logic::Lor),
-        14 => Operator::Logic(Logic::Lqv),
-        15 => Operator::Logic(Logic::Lng),
-        16 => Operator::Mop,
-        17 => Operator::Mds,
-        18 => Operator::Ssp,
-        19 => Operator::Ssn,
-        20 => Operator::Chs,
-        21 => Operator::Top,
-        22 => Operator::Xch,
-        23 => Operator::Dup,
-        24 => Operator::Del,
-        25 => Operator::Nop,
-        26 => Operator::Lod,
-        27 => Operator::Std,
-        28 => Operator::Snd,
-        29 => Operator::Inx,
-        30 => Operator::Branch(Branch::Bfw),
-        31 => Operator::Branch(Branch::Bbw),
-        32 => Operator::Branch(Branch::Bfc),
-        33 => Operator::Branch(Branch::Bbc),
-        34 => Operator::Mks,
-        35 => Operator::Xit,
-        36 => Operator::Com,
-        _ => Operator::NotBuilt(k),
-    }
-}
-
-pub fn decode(y: u16) -> Syllable
-    ensures { result ≡ decode_of (y % 4096) }
-{
-    let k = y % 4096 / 4;
-    let n = number(y);
-    match n {
-        37 => Syllable::Litc(k),
-        38 => Syllable::Opdc(k),
-        39 => Syllable::Desc(k),
-        _ => Syllable::Operator(operator_at(n, k)),
-    }
 }
 
 // The syllable of an operator.
@@ -230,22 +153,19 @@ pub fn encode(s: Syllable) -> u16
 }
 
 // The l-th syllable of a word, the leftmost being 0; the last one for every l over 3.
+#[tactic(auto, using(crate::proofs::Lasts::twelve, word::proofs::Choices::chosen))]
 pub fn syllable_at(w: u64, l: u8) -> u16
     ensures { result ≡ syllable_of w l }
 {
-    match l {
-        0 => word::bits(w, 0, 11) as u16,
-        1 => word::bits(w, 12, 23) as u16,
-        2 => word::bits(w, 24, 35) as u16,
-        _ => word::bits(w, 36, 47) as u16,
-    }
+    let first = 12 * l.min(3);
+    word::bits(w, first, first + 11) as u16
 }
 
 // The place of the next syllable.
 pub fn advance(c: u16, l: u8) -> Position
     ensures { result ≡ advance_of c l }
 {
-    let n = (4 * c as u32 + l as u32 + 1) % 131072;
+    let n = (4 * u32::from(c) + u32::from(l) + 1) % 131072;
     Position {
         c: (n / 4) as u16,
         l: (n % 4) as u8,

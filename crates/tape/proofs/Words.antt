@@ -1,32 +1,35 @@
 -- Laws of reading: a word from its six bytes, and the loop that fills a core.
-use Prim.Native.Nat.{ℕ, zero, suc, ◌+◌, ◌*◌, ◌<◌, ◌≤◌}
+use Prim.Native.Nat.{ℕ, zero, suc, ◌+◌, ◌*◌, ◌<◌}
 use mathlib.Core.Path.{◌≡◌, refl, sym, ◌∙◌, ap}
 use mathlib.Core.List.{List, [], ◌∷◌, ◌++◌}
 use native.Mathlib.Omega.{arith}
 use native.Mathlib.Numerals.{add-one}
 use borrow.Author.Tests.{eq-eqb, ne_eqb}
 use lib.ListN.{length, take, drop, get_or, set}
-use lib.Seq.{drop-cons, drop-drop, take-suc-set, take_all}
+use Rattle.std.specs.Simd.{first_chunks}
+use lib.Seq.{drop-drop, take-suc-set, take_all}
 use Rattle.word.specs.Digits.{numeral}
 use Rattle.word.specs.Choices.{if◌then◌otherwise◌}
-use Rattle.tape.specs.Files.{words_of, read_number_of, read_file_of}
+use Rattle.std.specs.declared.result.Result.{Result}
+use Rattle.std.specs.declared.result.Result.TheVariants.{Ok, Err}
+use Rattle.word.specs.Core.{number_by}
+use Rattle.tape.specs.declared.errors.ReadError.{ReadError}
+use Rattle.tape.specs.declared.errors.ReadError.TheVariants.{Records, Length}
+use Rattle.tape.specs.Files.{words_of, words_in_of, read_error_number, read_number_of, read_file_of, FileRead}
+use Rattle.tape.proofs.Numbers.{read_refused, read_counted}
 
--- The six bytes from `at` on, one by one.
-six_bytes : (bytes : List ℕ) (at : ℕ) → at + 6 ≤ length bytes
-    → take 6 (drop at bytes) ≡ get_or bytes at 0 ∷ get_or bytes (at + 1) 0 ∷ get_or bytes (at + 2) 0 ∷ get_or bytes (at + 3) 0 ∷ get_or bytes (at + 4) 0 ∷ get_or bytes (at + 5) 0 ∷ []
-six_bytes bytes at h =
-    let e₁ : at + 1 ≡ suc at = omega arith in
-    let e₂ : at + 2 ≡ suc (suc at) = omega arith in
-    let e₃ : at + 3 ≡ suc (suc (suc at)) = omega arith in
-    let e₄ : at + 4 ≡ suc (suc (suc (suc at))) = omega arith in
-    let e₅ : at + 5 ≡ suc (suc (suc (suc (suc at)))) = omega arith in
-    rw (e₁, e₂, e₃, e₄, e₅, drop-cons bytes at 0 (omega arith), drop-cons bytes (suc at) 0 (omega arith), drop-cons bytes (suc (suc at)) 0 (omega arith), drop-cons bytes (suc (suc (suc at))) 0 (omega arith), drop-cons bytes (suc (suc (suc (suc at)))) 0 (omega arith), drop-cons bytes (suc (suc (suc (suc (suc at))))) 0 (omega arith))
-
-pub six_said : (bytes : List ℕ) (at : ℕ) {a b c d e f : ℕ} → at + 6 ≤ length bytes
-    → a ≡ get_or bytes at 0 → b ≡ get_or bytes (at + 1) 0 → c ≡ get_or bytes (at + 2) 0 → d ≡ get_or bytes (at + 3) 0 → e ≡ get_or bytes (at + 4) 0 → f ≡ get_or bytes (at + 5) 0
-    → (a * 256 + b) * 4294967296 + (c * 256 + d) * 65536 + (e * 256 + f) ≡ numeral 256 (take 6 (drop at bytes))
+-- Six bytes say a word, the highest first.
+pub six_said : (bytes : List ℕ) → length bytes ≡ 6
+    → get_or bytes 0 0 * 1099511627776 + get_or bytes 1 0 * 4294967296 + get_or bytes 2 0 * 16777216 + get_or bytes 3 0 * 65536 + get_or bytes 4 0 * 256 + get_or bytes 5 0 ≡ numeral 256 bytes
 unfolding numeral
-six_said bytes at h p₀ p₁ p₂ p₃ p₄ p₅ = rw (six_bytes bytes at h) (omega arith)
+six_said (a ∷ b ∷ c ∷ d ∷ e ∷ f ∷ []) h = omega arith
+six_said [] h = absurd (omega arith)
+six_said (a ∷ []) h = absurd (omega arith)
+six_said (a ∷ b ∷ []) h = absurd (omega arith)
+six_said (a ∷ b ∷ c ∷ []) h = absurd (omega arith)
+six_said (a ∷ b ∷ c ∷ d ∷ []) h = absurd (omega arith)
+six_said (a ∷ b ∷ c ∷ d ∷ e ∷ []) h = absurd (omega arith)
+six_said (a ∷ b ∷ c ∷ d ∷ e ∷ f ∷ g ∷ r) h = absurd (omega arith)
 
 -- One word more, at the end.
 words_snoc : (n : ℕ) (bytes : List ℕ) → words_of (suc n) bytes ≡ words_of n bytes ++ (numeral 256 (take 6 (drop (6 * n) bytes)) ∷ [])
@@ -42,17 +45,23 @@ unfolding words_of
 words_length zero bytes = refl
 words_length (suc n) bytes = ap suc (words_length n (drop 6 bytes))
 
--- ---- the loop: i words are read
+-- ---- the loop: i records are read
 
-pub fill_more : (bytes core : List ℕ) (i : ℕ) {w : ℕ} → i < length core → take i core ≡ words_of i bytes → w ≡ numeral 256 (take 6 (drop (6 * i) bytes))
-    → take (i + 1) (set core i w) ≡ words_of (i + 1) bytes
-fill_more bytes core i {w} h e f =
-    rw (add-one i, take-suc-set core i w h, words_snoc i bytes, e, f)
+-- The records of a file are its bytes by sixes.
+record_at : (n i : ℕ) (bytes : List ℕ) → i < n → get_or (first_chunks 6 n bytes) i [] ≡ take 6 (drop (6 * i) bytes)
+record_at zero i bytes h = absurd (omega arith)
+record_at (suc n) zero bytes h = refl
+record_at (suc n) (suc i) bytes h =
+    let e : 6 + 6 * i ≡ 6 * suc i = omega arith in
+    record_at n i (drop 6 bytes) (omega arith) ∙ rw (drop-drop (6 * i) 6 bytes, e)
 
-pub fill_end : (bytes core : List ℕ) (i n : ℕ) → i ≤ n → length core ≤ i → length core ≡ n → take i core ≡ words_of i bytes → core ≡ words_of n bytes
-fill_end bytes core i n l h m e =
-    let s : i ≡ n = omega arith in
-    sym (take_all i core h) ∙ e ∙ ap (λ (k : ℕ). words_of k bytes) s
+pub fill_more : (bytes core : List ℕ) {records : List (List ℕ)} {i n w : ℕ} → records ≡ first_chunks 6 n bytes → i < n → i < length core → take i core ≡ words_of i bytes
+    → w ≡ numeral 256 (get_or records i []) → take (i + 1) (set core i w) ≡ words_of (i + 1) bytes
+fill_more bytes core {records} {i} {n} {w} r l h e f =
+    rw (add-one i, take-suc-set core i w h, words_snoc i bytes, e, f, r, record_at n i bytes l)
+
+pub fill_end : (bytes core : List ℕ) {i n : ℕ} → i ≡ n → length core ≡ n → take i core ≡ words_of i bytes → core ≡ words_of n bytes
+fill_end bytes core {i} {n} e l h = sym (take_all i core (omega arith)) ∙ rw (← e) h
 
 -- ---- a file is read, or nothing is written
 
@@ -60,6 +69,29 @@ pub read_yes : (bytes core : List ℕ) {new : List ℕ} → read_number_of bytes
 unfolding read_file_of if◌then◌otherwise◌
 read_yes bytes core z e = rw (eq-eqb (read_number_of bytes (length core)) 0 z) e
 
-pub read_no : (bytes core : List ℕ) → (read_number_of bytes (length core) ≡ 0 → ⊥) → core ≡ read_file_of bytes core
+read_no : (bytes core : List ℕ) → (read_number_of bytes (length core) ≡ 0 → ⊥) → core ≡ read_file_of bytes core
 unfolding read_file_of if◌then◌otherwise◌
 read_no bytes core n = rw (ne_eqb (read_number_of bytes (length core)) 0 n)
+
+-- The three ways out of a reading.
+module _ (bytes core : List ℕ) where
+  pub file_refused : {why : ReadError} {r : Result (Unit {0}) ReadError} → Err why ≡ words_in_of (length bytes) → r ≡ Err why → FileRead bytes core core (number_by read_error_number r)
+  file_refused {why} e f =
+      let n : read_error_number why ≡ read_number_of bytes (length core) = read_refused bytes (length core) e in
+      rw f (record { number = n; core = read_no bytes core (λ z. above why (n ∙ z)) })
+    where
+      above : (w : ReadError) → read_error_number w ≡ 0 → ⊥
+      above Records z = absurd (omega arith)
+      above Length z = absurd (omega arith)
+
+  pub file_other : {words : ℕ} → Ok words ≡ words_in_of (length bytes) → (length core ≡ words → ⊥) → FileRead bytes core core 1
+  unfolding if◌then◌otherwise◌
+  file_other {words} e h =
+      let n : 1 ≡ read_number_of bytes (length core) = rw (read_counted bytes (length core) e, ne_eqb (length core) words h) in
+      record { number = n; core = read_no bytes core (λ z. absurd (omega arith)) }
+
+  pub file_whole : {words : ℕ} {new : List ℕ} → Ok words ≡ words_in_of (length bytes) → length core ≡ words → new ≡ words_of (length core) bytes → FileRead bytes core new 0
+  unfolding if◌then◌otherwise◌
+  file_whole {words} e h w =
+      let n : 0 ≡ read_number_of bytes (length core) = rw (read_counted bytes (length core) e, eq-eqb (length core) words h) in
+      record { number = n; core = read_yes bytes core (sym n) w }

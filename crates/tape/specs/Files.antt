@@ -1,7 +1,13 @@
 -- "Core file: six-byte records, highest byte first, no header."
 use Rattle.std.specs.Prelude.{ℕ, zero, suc, ◌*◌, ◌/◌, ◌%◌, ◌≡◌, List, [], ◌∷◌, ◌++◌, eqb, length, take, drop}
 use Rattle.word.specs.Choices.{if◌then◌otherwise◌}
-use Rattle.word.specs.Core.{count_fits, length_fits, words_fit}
+use Rattle.std.specs.declared.result.Result.{Result}
+use Rattle.std.specs.declared.result.Result.TheVariants.{Ok, Err}
+use Rattle.word.specs.Core.{count_fits, length_fits, words_fit, core_error_number}
+use Rattle.tape.specs.declared.errors.ReadError.{ReadError}
+use Rattle.tape.specs.declared.errors.ReadError.TheVariants.{Records, Length}
+use Rattle.tape.specs.declared.errors.WriteError.{WriteError}
+use Rattle.tape.specs.declared.errors.WriteError.TheVariants.{Core, Room}
 use Rattle.word.specs.Digits.{digits, numeral}
 
 -- The first n words of a file: six bytes each, as digits to the base 256.
@@ -17,6 +23,18 @@ bytes_of (w ∷ ws) = digits 256 6 w ++ bytes_of ws
 -- Of a file's length in bytes: 4, "core file length not a multiple of 6"; 1, "core length 0 or over 32,768" words; else 0.
 unfoldable pub core_number_of : ℕ → ℕ
 core_number_of n = if eqb (n % 6) 0 then (if count_fits (n / 6) then 0 otherwise 1) otherwise 4
+
+-- How many words a file of n bytes has, or why it is no core file.
+unfoldable pub words_in_of : ℕ → Result ℕ ReadError
+words_in_of n = if eqb (n % 6) 0 then (if count_fits (n / 6) then Ok (n / 6) otherwise Err Length) otherwise Err Records
+
+abbrev pub read_error_number : ReadError → ℕ
+read_error_number Records = 4
+read_error_number Length = 1
+
+abbrev pub write_error_number : WriteError → ℕ
+write_error_number (Core e) = core_error_number e
+write_error_number Room = 4
 
 -- "Reading a core file checks 4, then 1, into a core of its exact word count, else 1"
 unfoldable pub read_number_of : List ℕ → ℕ → ℕ

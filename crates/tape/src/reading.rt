@@ -1,64 +1,53 @@
 // From a file to a core.
-ghost use Rattle.std.specs.Prelude.{◌≡◌, ◌+◌, ◌*◌, ◌≤◌, ◌<◌, length, take, drop};
+ghost use Rattle.std.specs.Prelude.{◌≡◌, ◌/◌, length};
+ghost use Rattle.word.specs.Core.{number_by};
 ghost use Rattle.word.specs.Digits.{numeral};
-ghost use Rattle.tape.specs.Files.{words_of, read_number_of, FileRead};
+ghost use Rattle.tape.specs.Files.{words_of, words_in_of, read_number_of, read_error_number, FileRead};
 
-// Reads a file into a core of its exact word count, and answers 0; or why not, and leaves the core as it was.
-pub fn read_file(bytes: &[u8], core: &mut [u64]) -> u64
-    ensures { FileRead bytes.now core.old core.new result }
+use crate::errors::ReadError;
+
+// How many words a file of n bytes has: 4, then 1.
+#[tactic(auto, using(crate::proofs::Numbers::counts))]
+pub fn words_in(n: usize) -> Result<usize, ReadError>
+    ensures { result ≡ words_in_of n }
 {
-    let n = read_number(bytes, core.len());
-    if n == 0 {
-        fill_core(bytes, core);
+    if n % 6 != 0 {
+        return Err(ReadError::Records);
     }
-    n
+    match n / 6 {
+        words @ 1..=32768 => Ok(words),
+        _ => Err(ReadError::Length),
+    }
 }
 
-// Why a file is not read into a core of `count` words, or 0.
-fn read_number(bytes: &[u8], count: usize) -> u64
-    ensures { result ≡ read_number_of bytes.now count }
+// Reads a file into a core of its exact word count; a refusal leaves the core as it was.
+pub fn read_file(bytes: &[u8], core: &mut [u64]) -> Result<(), ReadError>
+    ensures { FileRead bytes.now core.old core.new (number_by read_error_number result) }
 {
-    let n = bytes.len();
-    if n % 6 == 0 {
-        let words = n / 6;
-        if 0 < words {
-            if words <= 32768 {
-                if count == words {
-                    return 0;
-                }
-            }
-        }
-        return 1;
+    let words = words_in(bytes.len())?;
+    if core.len() != words {
+        return Err(ReadError::Length);
     }
-    4
+    fill_core(bytes, core);
+    Ok(())
 }
 
-// Fills all of a core from the start of a file.
+// Fills all of a core from a file of as many words.
 fn fill_core(bytes: &[u8], core: &mut [u64])
-    requires { 6 * length core.old ≤ length bytes.now }
+    requires { length bytes.now / 6 ≡ length core.old }
     ensures { core.new ≡ words_of (length core.old) bytes.now }
 {
-    let mut i = 0;
-    while i < core.len() {
-        let w = six(bytes, 6 * i);
-        core[i] = w;
-        i += 1;
+    // By index: of a core that `iter_mut` lends to a `zip` no clause says how it ends.
+    let (records, _) = bytes.as_chunks();
+    for (i, record) in records.iter().enumerate() {
+        core[i] = word_of(*record);
     }
 }
 
-// The word that the six bytes from `at` on say.
-fn six(bytes: &[u8], at: usize) -> u64
-    requires { at + 6 ≤ length bytes.now }
-    ensures { result ≡ numeral 256 (take 6 (drop at bytes.now)) }
+// The word that six bytes say.
+fn word_of(bytes: [u8; 6]) -> u64
+    ensures { result ≡ numeral 256 bytes }
 {
-    let high = wide(bytes[at]) * 256 + wide(bytes[at + 1]);
-    let middle = wide(bytes[at + 2]) * 256 + wide(bytes[at + 3]);
-    let low = wide(bytes[at + 4]) * 256 + wide(bytes[at + 5]);
-    high * 4294967296 + middle * 65536 + low
-}
-
-fn wide(b: u8) -> u64
-    ensures { (result ≡ b) × (result < 256) }
-{
-    b as u64
+    let [a, b, c, d, e, f] = bytes;
+    u64::from_be_bytes([0, 0, a, b, c, d, e, f])
 }

@@ -1,33 +1,21 @@
 // From a core to a file.
 ghost use Rattle.std.specs.Prelude.{◌≡◌, ◌++◌, ◌+◌, ◌*◌, ◌≤◌, length, take, drop};
+ghost use Rattle.word.specs.Core.{number_by};
 ghost use Rattle.word.specs.Digits.{digits};
-ghost use Rattle.tape.specs.Files.{bytes_of, write_number_of, FileWritten};
+ghost use Rattle.tape.specs.Files.{bytes_of, write_number_of, write_error_number, FileWritten};
 
-// Writes a core's file over room of its exact length, and answers 0; or why not, and leaves the room as it was.
-pub fn write_file(core: &[u64], room: &mut [u8]) -> u64
-    ensures { FileWritten core.now room.old room.new result }
-{
-    let n = write_number(core, room.len());
-    if n == 0 {
-        spread(core, room);
-    }
-    n
-}
+use crate::errors::WriteError;
 
-// Why a core is not written to `room` bytes, or 0.
-fn write_number(core: &[u64], room: usize) -> u64
-    ensures { result ≡ write_number_of core.now room }
+// Writes a core's file over room of its exact length; a refusal leaves the room as it was.
+pub fn write_file(core: &[u64], room: &mut [u8]) -> Result<(), WriteError>
+    ensures { FileWritten core.now room.old room.new (number_by write_error_number result) }
 {
-    if word::length_fits(core) {
-        if word::words_fit(core) {
-            if room == 6 * core.len() {
-                return 0;
-            }
-            return 4;
-        }
-        return 2;
+    word::check_core(core)?;
+    if room.len() != 6 * core.len() {
+        return Err(WriteError::Room);
     }
-    1
+    spread(core, room);
+    Ok(())
 }
 
 // Writes the file of a core over all of the room.
@@ -35,23 +23,8 @@ fn spread(core: &[u64], room: &mut [u8])
     requires { length room.old ≡ 6 * length core.now }
     ensures { room.new ≡ bytes_of core.now }
 {
-    let mut i = 0;
-    while i < core.len() {
-        let w = core[i];
-        put_six(room, 6 * i, w);
-        i += 1;
+    // By index: of room that is lent in chunks no clause says how it ends.
+    for (i, w) in core.iter().enumerate() {
+        room[6 * i..6 * i + 6].copy_from_slice(&w.to_be_bytes()[2..]);
     }
-}
-
-// Writes the six bytes of a word from `at` on.
-fn put_six(room: &mut [u8], at: usize, w: u64)
-    requires { at + 6 ≤ length room.old }
-    ensures { room.new ≡ take at room.old ++ digits 256 6 w ++ drop (at + 6) room.old }
-{
-    room[at] = (w / 1099511627776 % 256) as u8;
-    room[at + 1] = (w / 4294967296 % 256) as u8;
-    room[at + 2] = (w / 16777216 % 256) as u8;
-    room[at + 3] = (w / 65536 % 256) as u8;
-    room[at + 4] = (w / 256 % 256) as u8;
-    room[at + 5] = (w % 256) as u8;
 }

@@ -3,10 +3,11 @@ use Rattle.std.specs.Prelude.{ℕ, ◌-◌, ◌/◌, ◌≡◌, List, ◌++◌, 
 use Rattle.machine.specs.declared.outcome.Registers.{Registers}
 use Rattle.machine.specs.States.{no_registers, set_s, set_r}
 use Rattle.machine.specs.Runs.{Run, run_of}
-use Rattle.tape.specs.Files.{words_of, core_number_of, read_number_of}
+use Rattle.tape.specs.Files.{words_of, core_number_of, read_number_of, read_error_number}
 use Rattle.trial.specs.declared.trials.Sum.{Sum}
-use Rattle.trial.specs.declared.trials.Outcome.{Outcome}
-use Rattle.trial.specs.declared.trials.Outcome.TheVariants.{Refused, Ended}
+use Rattle.std.specs.declared.result.Result.{Result}
+use Rattle.std.specs.declared.result.Result.TheVariants.{Ok, Err}
+use Rattle.tape.specs.declared.errors.ReadError.{ReadError}
 use Rattle.word.specs.Choices.{if◌then◌otherwise◌}
 use Rattle.word.specs.Numbers.{OrNumber, the, given_back}
 
@@ -29,9 +30,13 @@ abbrev pub summary_of : Run → Sum
 summary_of r = record { stop = r.stop; completed = r.completed; c = r.regs.c; l = r.regs.l; s = r.regs.s; cell = get_or r.core 73 0 }
 
 -- What is told, or the number of a refused file.
-abbrev pub says_outcome : Outcome → OrNumber Sum
-says_outcome (Ended x) = the x
-says_outcome (Refused n) = given_back n
+abbrev pub says_outcome : Result Sum ℕ → OrNumber Sum
+says_outcome (Ok x) = the x
+says_outcome (Err n) = given_back n
+
+abbrev pub says_trial : Result Sum ReadError → OrNumber Sum
+says_trial (Ok x) = the x
+says_trial (Err e) = given_back (read_error_number e)
 
 -- "A refused file prints its number"; any other runs with a "budget 1,000".
 unfoldable pub trial_of : List ℕ → ℕ → OrNumber Sum

@@ -5,4 +5,4 @@ mod lines;
 mod trials;
 
 pub use lines::line;
-pub use trials::{Outcome, Sum, run_from_start, trial};
+pub use trials::{Sum, run_from_start, trial};

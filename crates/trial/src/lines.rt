@@ -1,86 +1,103 @@
 // The line that the trial program writes.
-ghost use Rattle.std.specs.Prelude.{◌≡◌, ◌∷◌, [], ◌+◌, ◌≤◌, ◌<◌, length};
+ghost use Rattle.std.specs.Prelude.{◌≡◌, ◌∷◌, [], ◌++◌, ◌+◌, ◌≤◌, ◌<◌, length};
 ghost use Rattle.trial.specs.Trials.{says_outcome};
 ghost use Rattle.trial.specs.Lines.{leading_of, glyph_of, spelled_of, decimal_of, octal_of, sum_line_of, line_of, Written};
+ghost use Rattle.trial.specs.ForCode.Texts.{text_of};
 
-use crate::trials::{Outcome, Sum};
+use crate::trials::Sum;
 
-// Writes the line over the start of the room, and answers its length.
-pub fn line(t: Outcome, room: &mut [u8; 128]) -> usize
+// Writes the line of a sum, or of the number that refused it, over the start of the room, and answers its length.
+// What refused is told by its number, since any number may have refused.
+pub fn line(t: Result<Sum, u64>, room: &mut [u8; 128]) -> usize
     ensures written { Written room.old 0 (line_of (says_outcome t)) room.new result }
     ensures within { result ≤ 128 }
 {
-    match t {
-        Outcome::Refused(n) => decimal(room, 0, n, 10),
-        Outcome::Ended(sum) => sum_line(room, sum),
+    let Text { chars, end } = Text::of(t);
+    room[..end].copy_from_slice(&chars[..end]);
+    end
+}
+
+// The line as far as it is written: the first `end` of the characters.
+// Its digits are set one by one, since no clause says that a `write!` into fixed room does not fail.
+#[derive(Drop)]
+struct Text {
+    chars: [u8; 128],
+    end: usize,
+}
+
+impl Text {
+    // The line of a sum, or of the number that refused it.
+    fn of(t: Result<Sum, u64>) -> Text
+        ensures { (text_of result ≡ line_of (says_outcome t)) × (result.end ≤ 122) }
+    {
+        let mut text = Text {
+            chars: [0; 128],
+            end: 0,
+        };
+        match t {
+            Ok(sum) => text.sum(sum),
+            Err(n) => text.decimal(n, b'\n'),
+        }
+        text
     }
-}
 
-// "stop, completed, C, L, S in decimal, then cell 9 in sixteen octal digits, one space between and a line feed after"
-fn sum_line(room: &mut [u8; 128], sum: Sum) -> usize
-    ensures { (Written room.old 0 (sum_line_of sum) room.new result) × (result ≤ 128) }
-{
-    let completed = decimal(room, 0, sum.stop, 32);
-    let c = decimal(room, completed, sum.completed, 32);
-    let l = decimal(room, c, sum.c as u64, 32);
-    let s = decimal(room, l, sum.l as u64, 32);
-    let cell = decimal(room, s, sum.s as u64, 32);
-    octal(room, cell, sum.cell, 10)
-}
+    // "stop, completed, C, L, S in decimal, then cell 9 in sixteen octal digits, one space between and a line feed after"
+    fn sum(&mut self, sum: Sum)
+        requires { self.old.end ≡ 0 }
+        ensures { (text_of self.new ≡ text_of self.old ++ sum_line_of sum) × (self.new.end ≤ 122) }
+    {
+        self.decimal(sum.stop, b' ');
+        self.decimal(sum.completed, b' ');
+        self.decimal(u64::from(sum.c), b' ');
+        self.decimal(u64::from(sum.l), b' ');
+        self.decimal(u64::from(sum.s), b' ');
+        self.octal(sum.cell, b'\n');
+    }
 
-// Writes a number in decimal and a character after it, from `at` on, and answers the next place.
-fn decimal(room: &mut [u8; 128], at: usize, n: u64, after: u8) -> usize
-    requires { at + 21 ≤ 128 }
-    ensures { (Written room.old at (decimal_of n after) room.new result) × (result ≤ at + 21) }
-{
-    let mut ds = [0u8; 20];
-    word::to_digits(n, 10, &mut ds);
-    let k = leading(&ds);
-    spell(room, at, &ds[k..], after)
-}
+    // A number in decimal, and a character after it.
+    fn decimal(&mut self, n: u64, after: u8)
+        requires { self.old.end + 21 ≤ 128 }
+        ensures { (text_of self.new ≡ text_of self.old ++ decimal_of n after) × (self.new.end ≤ self.old.end + 21) }
+    {
+        let mut ds = [0; 20];
+        word::to_digits(n, 10, &mut ds);
+        let k = leading(&ds);
+        self.spell(&ds[k..], after);
+    }
 
-// Writes a word in sixteen octal digits and a character after it.
-fn octal(room: &mut [u8; 128], at: usize, w: u64, after: u8) -> usize
-    requires { at + 17 ≤ 128 }
-    ensures { (Written room.old at (octal_of w after) room.new result) × (result ≤ at + 17) }
-{
-    let mut ds = [0u8; 16];
-    word::to_digits(w, 8, &mut ds);
-    spell(room, at, &ds, after)
+    // A word in sixteen octal digits, and a character after it.
+    fn octal(&mut self, w: u64, after: u8)
+        requires { self.old.end + 17 ≤ 128 }
+        ensures { (text_of self.new ≡ text_of self.old ++ octal_of w after) × (self.new.end ≤ self.old.end + 17) }
+    {
+        let mut ds = [0; 16];
+        word::to_digits(w, 8, &mut ds);
+        self.spell(&ds, after);
+    }
+
+    // The characters of digits, and one after them.
+    fn spell(&mut self, ds: &[u8], after: u8)
+        requires { self.old.end + length ds.now < 128 }
+        ensures { (text_of self.new ≡ text_of self.old ++ spelled_of ds.now after) × (self.new.end ≡ self.old.end + length ds.now + 1) }
+    {
+        for d in ds {
+            self.push(b'0' + *d % 10);
+        }
+        self.push(after);
+    }
+
+    fn push(&mut self, c: u8)
+        requires { self.old.end < 128 }
+        ensures { (text_of self.new ≡ text_of self.old ++ c ∷ []) × (self.new.end ≡ self.old.end + 1) }
+    {
+        self.chars[self.end] = c;
+        self.end += 1;
+    }
 }
 
 // How many digits are leading zeros. The last digit is none.
-fn leading(ds: &[u8]) -> usize
-    ensures { (result ≡ leading_of ds.now) × (result ≤ length ds.now) }
+fn leading(ds: &[u8; 20]) -> usize
+    ensures { (result ≡ leading_of ds.now) × (result < 20) }
 {
-    let mut i = 0;
-    while i + 1 < ds.len() {
-        if 0 < ds[i] {
-            return i;
-        }
-        i += 1;
-    }
-    i
-}
-
-// Writes the characters of digits and one after them.
-fn spell(room: &mut [u8; 128], at: usize, ds: &[u8], after: u8) -> usize
-    requires { at + length ds.now < 128 }
-    ensures { Written room.old at (spelled_of ds.now after) room.new result }
-{
-    let mut i = 0;
-    while i < ds.len() {
-        let d = ds[i];
-        room[at + i] = glyph(d);
-        i += 1;
-    }
-    room[at + i] = after;
-    at + i + 1
-}
-
-// The character of a digit.
-fn glyph(d: u8) -> u8
-    ensures { result ≡ glyph_of d }
-{
-    48 + d % 10
+    ds.iter().position(|d| *d != 0).unwrap_or(ds.len() - 1)
 }

@@ -1,13 +1,15 @@
 // The run of a core file, or why it is refused.
 ghost use Rattle.std.specs.Prelude.{◌≡◌, length};
-ghost use Rattle.trial.specs.Trials.{Told, says_outcome, trial_of};
+ghost use Rattle.trial.specs.Trials.{Told, says_trial, trial_of};
 ghost use Rattle.trial.specs.ForCode.Loads.{Loaded};
 
-use machine::Registers;
+use machine::{Ran, Registers};
+use tape::ReadError;
 
-// What a run leaves: the stop, the syllables completed, C, L, S and cell 9.
-#[derive(Clone, Copy)]
+// What a run leaves, as numbers to be told: the stop, the syllables completed, C, L, S and cell 9.
+#[derive(Clone, Copy, Debug, PartialEq, Eq)]
 pub struct Sum {
+    // A number, as it is printed.
     pub stop: u64,
     pub completed: u64,
     pub c: u16,
@@ -16,41 +18,24 @@ pub struct Sum {
     pub cell: u64,
 }
 
-// A file is refused, with its number, or runs to an end.
-#[derive(Clone, Copy)]
-pub enum Outcome {
-    Refused(u64),
-    Ended(Sum),
-}
-
 // Runs an input of `total` bytes; `bytes` are the first of them, all where they are 4,096 words or fewer.
-pub fn trial(bytes: &[u8], total: usize) -> Outcome
-    ensures { says_outcome result ≡ trial_of bytes.now total }
+pub fn trial(bytes: &[u8], total: usize) -> Result<Sum, ReadError>
+    ensures { says_trial result ≡ trial_of bytes.now total }
 {
     let mut core = [0u64; 4096];
-    let n = load(bytes, total, &mut core);
-    if n == 0 {
-        let sum = run_from_start(&mut core, 1000);
-        return Outcome::Ended(sum);
-    }
-    Outcome::Refused(n)
+    load(bytes, total, &mut core)?;
+    Ok(run_from_start(&mut core, 1000))
 }
 
-// Reads the file into the first words of core, and answers 0; or why not.
-fn load(bytes: &[u8], total: usize, core: &mut [u64]) -> u64
-    requires { length core.old ≡ 4096 }
+// Reads the file into the first words of core.
+fn load(bytes: &[u8], total: usize, core: &mut [u64; 4096]) -> Result<(), ReadError>
     ensures { Loaded bytes.now total core.old core.new result }
 {
-    if total % 6 == 0 {
-        let n = total / 6;
-        if 0 < n {
-            if n <= 4096 {
-                return tape::read_file(bytes, &mut core[..n]);
-            }
-        }
-        return 1;
+    let n = tape::words_in(total)?;
+    if 4096 < n {
+        return Err(ReadError::Length);
     }
-    4
+    tape::read_file(bytes, &mut core[..n])
 }
 
 // Runs a core: "starts at C=0, R=1, S=31, the rest 0, empty or off".
@@ -58,23 +43,23 @@ pub fn run_from_start(core: &mut [u64; 4096], budget: u64) -> Sum
     ensures { Told core.old budget core.new result }
 {
     let g = Registers {
-        a: 0,
-        afull: false,
-        b: 0,
-        bfull: false,
         s: 31,
-        f: 0,
-        c: 0,
         r: 1,
-        l: 0,
-        salf: false,
-        msff: false,
+        ..Registers::default()
     };
-    let ran = machine::run(core, g, budget);
-    let h = ran.regs;
+    let (stop, completed, h) = match machine::run(core, g, budget) {
+        Ok(
+            Ran {
+                end,
+                completed,
+                regs,
+            },
+        ) => (u64::from(end), completed, regs),
+        Err(refusal) => (u64::from(refusal), 0, g),
+    };
     Sum {
-        stop: ran.stop,
-        completed: ran.completed,
+        stop,
+        completed,
         c: h.c,
         l: h.l,
         s: h.s,

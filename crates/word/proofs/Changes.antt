@@ -3,7 +3,7 @@ use Prim.Native.Nat.{ℕ, ◌+◌, ◌-◌, ◌*◌, ◌/◌, ◌%◌, ◌^◌, 
 use mathlib.Core.Path.{◌≡◌, sym, ◌∙◌, ap, subst}
 use native.Mathlib.Nat.{mod-lt, mod-le, one-mul, div-add-mod', div-mul-le_self, mul-le-mul_right, le_trans, lt_of_le_of_lt, mod-eq_of_lt}
 use native.Mathlib.Omega.{arith}
-use borrow.Author.Tests.{le-leb, lt-leb}
+use borrow.Author.Tests.{le-leb}
 use lib.Pow.{pow_pos, pow-add, shl_exact, shr_lt}
 use lib.Arith.{digits_lt}
 use mir.Syntax.{w64}
@@ -15,24 +15,13 @@ use Rattle.word.specs.Field.{worth, span, field, bits_of, placed, with_field}
 pub power : (n : ℕ) → n < 64 → 1 * 2 ^ n % 2 ^ 64 ≡ 2 ^ n
 power n h = shl_exact {a = 1} 1 n 64 (omega arith) (omega arith) ∙ one-mul (2 ^ n)
 
-pub power_pos : (n : ℕ) → n < 64 → 0 < 1 * 2 ^ n % 2 ^ 64
-power_pos n h = rw power (pow_pos n)
-
 pub low_of_is : (x n : ℕ) → n < 64 → x % (1 * 2 ^ n % 2 ^ 64) ≡ x % 2 ^ n
 low_of_is x n h = rw power
 
--- Bits that are there, and bits that are not.
+-- Bits that are there.
 pub bits_yes : (w first last : ℕ) → first ≤ last → last ≤ 47 → field w first last ≡ bits_of w first last
 unfolding if◌then◌otherwise◌
 bits_yes w first last h l = rw (le-leb first last h, le-leb last 47 l)
-
-pub bits_past : (w first last : ℕ) → first ≤ last → 47 < last → 0 ≡ bits_of w first last
-unfolding if◌then◌otherwise◌
-bits_past w first last h l = rw (le-leb first last h, lt-leb last 47 l)
-
-pub bits_none : (w first last : ℕ) → last < first → 0 ≡ bits_of w first last
-unfolding if◌then◌otherwise◌
-bits_none w first last h = rw (lt-leb first last h)
 
 -- What the machine's shifts give for a placed field.
 pub placed_is : (x first last : ℕ) → first ≤ last → last ≤ 47
@@ -70,9 +59,6 @@ changed_lt k w first last x h l hk hw =
 -- ---- the word with another field, as the machine makes it
 
 module _ (w first last : ℕ) (f : ℕ) where
-  pub taken_le : w < 2 ^ 64 → f ≡ field w first last → f * 2 ^ (47 - last) % 2 ^ 64 ≤ w
-  taken_le h e = rw (e, shifted_is w first last h) (field_le w first last)
-
   pub written : (x n : ℕ) → w < 2 ^ 64 → f ≡ field w first last → n ≡ placed first last x → w - f * 2 ^ (47 - last) % 2 ^ 64 + n ≡ with_field w first last x
   written x n h e p = rw (e, shifted_is w first last h, p)
 

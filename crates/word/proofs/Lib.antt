@@ -1,3 +1,5 @@
+pub mod Choices
+pub mod Checks
 pub mod Changes
 pub mod Signed
 pub mod Operands

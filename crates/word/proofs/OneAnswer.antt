@@ -4,17 +4,15 @@ use mathlib.Core.Path.{◌≡◌, refl}
 use mathlib.Core.Option.{Option, some, none}
 use lib.IntN.{ℤ}
 use Rattle.word.specs.Numbers.{OrNumber, the, given_back, says_whole, says_made}
-use Rattle.word.specs.declared.number.Whole.{Whole}
-use Rattle.word.specs.declared.number.Whole.TheVariants.{Number, NotWhole}
-use Rattle.word.specs.declared.number.Made.{Made}
-use Rattle.word.specs.declared.number.Made.TheVariants.{Word, PastWhole}
-use Rattle.word.specs.declared.digits.Reading.{Reading}
-use Rattle.word.specs.declared.digits.Reading.TheVariants.{Number as Read, Refused}
+use Rattle.std.specs.declared.option.Option.{Option as Found}
+use Rattle.std.specs.declared.option.Option.TheVariants.{Some, None}
 use Rattle.word.proofs.Sole.{sole, sole_said}
+use Rattle.word.proofs.addresses.cell_address.Reads as cell_address
 use Rattle.word.proofs.addresses.sum.Reads as sum
 use Rattle.word.proofs.arrays.array_in.Reads as array_in
 use Rattle.word.proofs.cores.length_fits.Reads as length_fits
 use Rattle.word.proofs.cores.words_fit.Reads as words_fit
+use Rattle.word.proofs.cores.check_core.Reads as check_core
 use Rattle.word.proofs.digits.from_digits.Reads as from_digits
 use Rattle.word.proofs.digits.to_digits.Reads as to_digits
 use Rattle.word.proofs.fields.bits.Reads as bits
@@ -50,30 +48,29 @@ use Rattle.word.proofs.number.value.Reads as value
 use Rattle.word.proofs.number.whole_of.Reads as whole_of
 use Rattle.word.specs.Digits.{says_reading}
 
--- Each enum comes back from what its cases say, so the saying is one to one.
-abbrev whole : OrNumber ℤ → Whole
-whole (the z) = Number z
-whole (given_back n) = NotWhole
+-- Each answer comes back from what its cases say, so the saying is one to one.
+abbrev found : {A : Type 0} → OrNumber A → Found A
+found (the x) = Some x
+found (given_back n) = None
 
-whole_back : (r : Whole) → whole (says_whole r) ≡ r
-whole_back (Number z) = refl
-whole_back NotWhole = refl
+whole_back : (r : Found ℤ) → found (says_whole r) ≡ r
+whole_back (Some z) = refl
+whole_back None = refl
 
-abbrev made : OrNumber ℕ → Made
-made (the w) = Word w
-made (given_back n) = PastWhole
+made_back : (r : Found ℕ) → found (says_made r) ≡ r
+made_back (Some w) = refl
+made_back None = refl
 
-made_back : (r : Made) → made (says_made r) ≡ r
-made_back (Word w) = refl
-made_back PastWhole = refl
+abbrev read : Option ℕ → Found ℕ
+read (some n) = Some n
+read none = None
 
-abbrev read : Option ℕ → Reading
-read (some n) = Read n
-read none = Refused
+read_back : (r : Found ℕ) → read (says_reading r) ≡ r
+read_back (Some n) = refl
+read_back None = refl
 
-read_back : (r : Reading) → read (says_reading r) ≡ r
-read_back (Read n) = refl
-read_back Refused = refl
+pub cell_address_sole : (κs : _) (a : _) (r r' : _) (e e' : _) → cell_address.Learnt κs a r e → cell_address.Learnt κs a r' e' → r ≡ r'
+cell_address_sole κs a r r' e e' p q = sole p q
 
 pub sum_sole : (κs : _) (a : _) (r r' : _) (e e' : _) → sum.Learnt κs a r e → sum.Learnt κs a r' e' → r ≡ r'
 sum_sole κs a r r' e e' p q = sole p q
@@ -86,6 +83,9 @@ length_fits_sole κs a r r' e e' p q = sole p q
 
 pub words_fit_sole : (κs : _) (a : _) (r r' : _) (e e' : _) → words_fit.Learnt κs a r e → words_fit.Learnt κs a r' e' → r ≡ r'
 words_fit_sole κs a r r' e e' p q = sole p q
+
+pub check_core_sole : (κs : _) (a : _) (r r' : _) (e e' : _) → check_core.Learnt κs a r e → check_core.Learnt κs a r' e' → r ≡ r'
+check_core_sole κs a r r' e e' p q = sole p q
 
 pub from_digits_sole : (κs : _) (a : _) (r r' : _) (e e' : _) → from_digits.Learnt κs a r e → from_digits.Learnt κs a r' e' → r ≡ r'
 from_digits_sole κs a r r' e e' p q = sole_said says_reading read read_back p q
@@ -178,10 +178,10 @@ pub with_size_sole : (κs : _) (a : _) (r r' : _) (e e' : _) → with_size.Learn
 with_size_sole κs a r r' e e' p q = sole p q
 
 pub operand_of_sole : (κs : _) (a : _) (r r' : _) (e e' : _) → operand_of.Learnt κs a r e → operand_of.Learnt κs a r' e' → r ≡ r'
-operand_of_sole κs a r r' e e' p q = sole_said says_made made made_back p q
+operand_of_sole κs a r r' e e' p q = sole_said says_made found made_back p q
 
 pub value_sole : (κs : _) (a : _) (r r' : _) (e e' : _) → value.Learnt κs a r e → value.Learnt κs a r' e' → r ≡ r'
 value_sole κs a r r' e e' p q = sole p q
 
 pub whole_of_sole : (κs : _) (a : _) (r r' : _) (e e' : _) → whole_of.Learnt κs a r e → whole_of.Learnt κs a r' e' → r ≡ r'
-whole_of_sole κs a r r' e e' p q = sole_said says_whole whole whole_back p q
+whole_of_sole κs a r r' e e' p q = sole_said says_whole found whole_back p q

@@ -1,20 +1,16 @@
 -- The one law of digits, over the base and the count: digits and numeral undo each other. And the steps of the two loops.
 use Prim.Native.Nat.{ℕ, zero, suc, ◌+◌, ◌-◌, ◌*◌, ◌/◌, ◌%◌, ◌^◌, ◌≤◌, ◌<◌}
 use mathlib.Core.Path.{◌≡◌, refl, sym, ◌∙◌, ap, subst}
-use mathlib.Core.Bool.{Bool, true, false, ◌&&◌, false≢true}
 use mathlib.Core.List.{List, [], ◌∷◌}
-use mathlib.Core.Option.{Option, some, none}
+use mathlib.Core.Option.{some, none}
 use native.Mathlib.Nat.{pow-zero, pow-succ', pow-suc, mod-one, div-one, sub_self, mod-eq_of_lt, one-le-pow, mod-lt, div-div-eq-div-mul, mul-le-mul_left}
 use native.Mathlib.Omega.{arith}
 use native.Mathlib.Numerals.{add-one}
-use borrow.Author.Tests.{lt-ltb, le-ltb, lt-leb, le-leb, leb-true}
+use borrow.Author.Tests.{lt-ltb, le-ltb}
 use lib.Arith.{mod-mul, digits_div, digits_mod, digits_lt}
-use lib.Dec.{leb}
 use lib.ListN.{length, get_or, drop, set, length-set, length-drop, drop_of_length-le}
 use lib.Seq.{drop-cons, get_or-set_same, drop-set-lt}
-use mir.Syntax.{w8, w64}
-use mir.Val.{Fits}
-use Rattle.word.specs.Digits.{digits, numeral, Below, byte_base, to_digits_of, if_word, from_digits_of}
+use Rattle.word.specs.Digits.{digits, numeral, Below, if_word}
 use Rattle.word.specs.Choices.{if◌then◌otherwise◌}
 
 pub digits_length : (base k n : ℕ) → length (digits base k n) ≡ k
@@ -94,24 +90,15 @@ fill_more base n at m left out h l len e d =
     drop-cons (set out (at - 1) (left % base)) (at - 1) 0 (subst (λ (q : ℕ). at - 1 < q) (sym (length-set out (at - 1) (left % base))) i)
     ∙ rw (get_or-set_same out (at - 1) (left % base) 0 i, drop-set-lt (suc (at - 1)) out (at - 1) (left % base) (omega arith), s, d, e, k)
 
-pub digit_fits : (n base : ℕ) → 2 ≤ base → base ≤ 256 → Fits w8 (n % base)
-digit_fits n base h l = record { fits = omega (arith, mod-lt n {m = base} (omega arith)) }
-
-pub product_fits : (n base d : ℕ) → n < 2 ^ 48 → base ≤ 256 → d < 256 → Fits w64 (n * base + d)
-product_fits n base d h l k = record { fits = omega (arith, mul-le-mul_left n l) }
-
 -- ---- the loop that reads digits from the first to the last: n is read, from i on they are still to be read
 
-pub gather_none : (base : ℕ) (ds : List ℕ) → numeral base ds ≡ 0 * base ^ (length ds - 0) + numeral base (drop 0 ds)
-gather_none base ds = omega arith
-
-pub gather_more : (base n i : ℕ) (ds : List ℕ) → i < length ds → numeral base ds ≡ n * base ^ (length ds - i) + numeral base (drop i ds)
-    → numeral base ds ≡ (n * base + get_or ds i 0) * base ^ (length ds - (i + 1)) + numeral base (drop (i + 1) ds)
+pub gather_more : (base n i d : ℕ) (ds : List ℕ) → i < length ds → d ≡ get_or ds i 0 → numeral base ds ≡ n * base ^ (length ds - i) + numeral base (drop i ds)
+    → numeral base ds ≡ (n * base + d) * base ^ (length ds - (i + 1)) + numeral base (drop (i + 1) ds)
 unfolding numeral
-gather_more base n i ds h e =
+gather_more base n i d ds h r e =
     let k : length ds - i ≡ suc (length ds - (i + 1)) = omega arith in
-    let d : length (drop (suc i) ds) ≡ length ds - (i + 1) = length-drop (suc i) ds ∙ omega arith in
-    e ∙ rw (k, pow-succ' base (length ds - (i + 1)), drop-cons ds i 0 h, d, add-one i) (omega arith)
+    let l : length (drop (suc i) ds) ≡ length ds - (i + 1) = length-drop (suc i) ds ∙ omega arith in
+    e ∙ rw (k, pow-succ' base (length ds - (i + 1)), drop-cons ds i 0 h, l, add-one i, r) (omega arith)
 
 pub gather_end : (base n i : ℕ) (ds : List ℕ) → i ≤ length ds → length ds ≤ i → n < 2 ^ 48 → numeral base ds ≡ n * base ^ (length ds - i) + numeral base (drop i ds)
     → some n ≡ if_word (numeral base ds)
@@ -128,41 +115,3 @@ gather_past base n i ds h large e =
     let p : 1 ≤ base ^ (length ds - i) = one-le-pow (length ds - i) base h in
     let q : n * 1 ≤ n * base ^ (length ds - i) = mul-le-mul_left n p in
     rw (le-ltb (numeral base ds) (2 ^ 48) (omega arith))
-
--- ---- a base that is 2 to 256
-
-pub base_low : (base : ℕ) → base < 2 → false ≡ byte_base base
-unfolding byte_base
-base_low base h = rw (lt-leb 2 base h)
-
-pub base_high : (base : ℕ) → 2 ≤ base → leb base 256 ≡ byte_base base
-unfolding byte_base
-base_high base h = rw (le-leb 2 base h)
-
-pub base_in : (base : ℕ) → byte_base base ≡ true → (2 ≤ base) × (base ≤ 256)
-unfolding byte_base
-base_in base e = (leb-true 2 base (first (leb 2 base) (leb base 256) e), leb-true base 256 (second (leb 2 base) (leb base 256) e))
-  where
-    first : (a b : Bool) → (a && b) ≡ true → a ≡ true
-    first true b e = refl
-    first false b e = e
-
-    second : (a b : Bool) → (a && b) ≡ true → b ≡ true
-    second true b e = e
-    second false b e = absurd (false≢true e)
-
-pub written_yes : (base n : ℕ) (old : List ℕ) {new : List ℕ} → byte_base base ≡ true → new ≡ digits base (length old) n → new ≡ to_digits_of base n old
-unfolding to_digits_of if◌then◌otherwise◌
-written_yes base n old e d = rw e d
-
-pub written_no : (base n : ℕ) (old : List ℕ) → byte_base base ≡ false → old ≡ to_digits_of base n old
-unfolding to_digits_of if◌then◌otherwise◌
-written_no base n old e = rw e
-
-pub read_yes : (base : ℕ) (ds : List ℕ) {r : Option ℕ} → byte_base base ≡ true → r ≡ if_word (numeral base ds) → r ≡ from_digits_of base ds
-unfolding from_digits_of if◌then◌otherwise◌
-read_yes base ds e d = rw e d
-
-pub read_no : (base : ℕ) (ds : List ℕ) → byte_base base ≡ false → none ≡ from_digits_of base ds
-unfolding from_digits_of if◌then◌otherwise◌
-read_no base ds e = rw e

@@ -2,8 +2,8 @@
 use Rattle.std.specs.Prelude.{ℕ, zero, suc, ◌+◌, ◌*◌, ◌/◌, ◌%◌, ◌^◌, ◌<◌, Bool, ◌&&◌, List, [], ◌∷◌, leb, ltb, length, get_or}
 use Rattle.std.proofs.Math.Option.{Option, some, none}
 use Rattle.word.specs.Choices.{if◌then◌otherwise◌}
-use Rattle.word.specs.declared.digits.Reading.{Reading}
-use Rattle.word.specs.declared.digits.Reading.TheVariants.{Number, Refused}
+use Rattle.std.specs.declared.option.Option.{Option as Found}
+use Rattle.std.specs.declared.option.Option.TheVariants.{Some, None}
 
 -- The last `count` digits of a number, the highest first: digit k from the end is worth base ^ k.
 unfoldable pub digits : ℕ → ℕ → ℕ → List ℕ
@@ -36,6 +36,6 @@ unfoldable pub from_digits_of : ℕ → List ℕ → Option ℕ
 from_digits_of base ds = if byte_base base then if_word (numeral base ds) otherwise none
 
 -- A word, or none: the paper has no number for digits that say no word.
-abbrev pub says_reading : Reading → Option ℕ
-says_reading (Number n) = some n
-says_reading Refused = none
+abbrev pub says_reading : Found ℕ → Option ℕ
+says_reading (Some n) = some n
+says_reading None = none

@@ -3,10 +3,8 @@ use Rattle.std.specs.Prelude.{ℕ, ◌+◌, ◌^◌, Bool, true, false, eqb, ltb
 use Rattle.word.specs.Field.{placed, one_of}
 use Rattle.word.specs.Layout.{sign_of, exponent_of, magnitude_of}
 use Rattle.word.specs.Choices.{if◌then◌otherwise◌}
-use Rattle.word.specs.declared.number.Whole.{Whole}
-use Rattle.word.specs.declared.number.Whole.TheVariants.{Number, NotWhole}
-use Rattle.word.specs.declared.number.Made.{Made}
-use Rattle.word.specs.declared.number.Made.TheVariants.{Word, PastWhole}
+use Rattle.std.specs.declared.option.Option.{Option}
+use Rattle.std.specs.declared.option.Option.TheVariants.{Some, None}
 
 -- "Numbers given back": a value, or the number given back in its place.
 pub data OrNumber (A : Type 0) : Type 0 where
@@ -37,10 +35,10 @@ operand_of z =
     if ltb (nat_abs z) (2 ^ 39) then the (placed 1 1 (one_of (negative z)) + placed 9 47 (nat_abs z)) otherwise given_back 20
 
 -- "20: number not whole 39-bit"
-abbrev pub says_whole : Whole → OrNumber ℤ
-says_whole (Number z) = the z
-says_whole NotWhole = given_back 20
+abbrev pub says_whole : Option ℤ → OrNumber ℤ
+says_whole (Some z) = the z
+says_whole None = given_back 20
 
-abbrev pub says_made : Made → OrNumber ℕ
-says_made (Word w) = the w
-says_made PastWhole = given_back 20
+abbrev pub says_made : Option ℕ → OrNumber ℕ
+says_made (Some w) = the w
+says_made None = given_back 20

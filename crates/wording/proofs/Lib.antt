@@ -1,6 +1,4 @@
 pub mod Choices
-pub mod FromTexts
-pub mod Lined
+pub mod Numbered
 pub mod OneAnswer
-pub mod Signs
-pub mod Texts
+pub mod Readings

@@ -1,16 +1,14 @@
 -- Any two permitted answers of a call are equal, and so is what they leave behind its references.
-use Prim.Native.Nat.{ℕ}
-use mathlib.Core.Path.{◌≡◌, refl, sym, ◌∙◌, ap}
-use mathlib.Core.Bool.{Bool, true, false}
-use Rattle.word.proofs.Sole.{sole}
-use Rattle.wording.specs.declared.numbers.Signed.{Signed}
-use Rattle.wording.specs.declared.numbers.Signed.TheVariants.{Plus, Minus, NotWhole}
-use Rattle.word.specs.Numbers.{OrNumber, the, given_back}
-use Rattle.wording.specs.Signs.{says_signed}
+use mathlib.Core.Path.{◌≡◌, refl}
+use Rattle.std.specs.Prelude.{ℕ, eqb}
+use Rattle.word.specs.Choices.{if◌then◌otherwise◌}
+use Rattle.word.proofs.Sole.{sole, sole_said}
+use Rattle.wording.specs.Results.{status_number}
+use Rattle.wording.specs.declared.results.Status.{Status}
+use Rattle.wording.specs.declared.results.Status.TheVariants.{Done, Refused, Undone, Short}
 use Rattle.wording.proofs.commands.command_of.Reads as command_of
 use Rattle.wording.proofs.names.name_of.Reads as name_of
 use Rattle.wording.proofs.numbers.number_of.Reads as number_of
-use Rattle.wording.proofs.numbers.signed_of.Reads as signed_of
 use Rattle.wording.proofs.places.kind_at.Reads as kind_at
 use Rattle.wording.proofs.places.place_of.Reads as place_of
 use Rattle.wording.proofs.results.communicated.Reads as communicated
@@ -25,27 +23,25 @@ name_of_sole κs a r r' e e' p q = sole p q
 pub number_of_sole : (κs : _) (a : _) (r r' : _) (e e' : _) → number_of.Learnt κs a r e → number_of.Learnt κs a r' e' → r ≡ r'
 number_of_sole κs a r r' e e' p q = sole p q
 
-abbrev unsaid : OrNumber (Bool × ℕ) → Signed
-unsaid (the (false, m)) = Plus m
-unsaid (the (true, m)) = Minus m
-unsaid (given_back n) = NotWhole
-
-comes_back : (r : Signed) → unsaid (says_signed r) ≡ r
-comes_back (Plus m) = refl
-comes_back (Minus m) = refl
-comes_back NotWhole = refl
-
-pub signed_of_sole : (κs : _) (a : _) (r r' : _) (e e' : _) → signed_of.Learnt κs a r e → signed_of.Learnt κs a r' e' → r ≡ r'
-signed_of_sole κs a r r' e e' p q = sym (comes_back r) ∙ ap unsaid (sole p q) ∙ comes_back r'
+pub place_of_sole : (κs : _) (a : _) (r r' : _) (e e' : _) → place_of.Learnt κs a r e → place_of.Learnt κs a r' e' → r ≡ r'
+place_of_sole κs a r r' e e' p q = sole p q
 
 pub kind_at_sole : (κs : _) (a : _) (r r' : _) (e e' : _) → kind_at.Learnt κs a r e → kind_at.Learnt κs a r' e' → r ≡ r'
 kind_at_sole κs a r r' e e' p q = sole p q
 
-pub place_of_sole : (κs : _) (a : _) (r r' : _) (e e' : _) → place_of.Learnt κs a r e → place_of.Learnt κs a r' e' → r ≡ r'
-place_of_sole κs a r r' e e' p q = sole p q
-
 pub communicated_sole : (κs : _) (a : _) (r r' : _) (e e' : _) → communicated.Learnt κs a r e → communicated.Learnt κs a r' e' → r ≡ r'
 communicated_sole κs a r r' e e' p q = sole p q
 
+-- The status with a number, so the numbers tell them apart.
+status_by : ℕ → Status
+status_by n = if eqb n 0 then Done otherwise if eqb n 1 then Refused otherwise if eqb n 2 then Undone otherwise Short
+
+status_back : (s : Status) → status_by (status_number s) ≡ s
+unfolding status_by if◌then◌otherwise◌
+status_back Done = refl
+status_back Refused = refl
+status_back Undone = refl
+status_back Short = refl
+
 pub status_of_sole : (κs : _) (a : _) (r r' : _) (e e' : _) → status_of.Learnt κs a r e → status_of.Learnt κs a r' e' → r ≡ r'
-status_of_sole κs a r r' e e' p q = sole p q
+status_of_sole κs a r r' e e' p q = sole_said status_number status_by status_back p q

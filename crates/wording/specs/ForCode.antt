@@ -1,3 +1,2 @@
 -- What only the code's own parts need: no public claim names it.
-pub mod Caps
-pub mod Lined
+pub mod Readings

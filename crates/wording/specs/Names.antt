@@ -1,7 +1,6 @@
 -- The names of syllables, by their operator numbers in the table of 4,096.
-use Rattle.std.specs.Prelude.{ℕ, List, [], ◌∷◌, get_or}
+use Rattle.std.specs.Prelude.{ℕ, List, [], ◌∷◌, get_or, codes}
 use Prim.Native.String.{String}
-use Rattle.wording.specs.Texts.{characters_of}
 
 -- In the order of the operator numbers: none, the 36 operators, LITC, OPDC, DESC. A blank ends a name of three letters.
 abbrev pub names : List String
@@ -21,4 +20,4 @@ names =
 
 -- A number past the table has the name of none.
 unfoldable pub name_of : ℕ → List ℕ
-name_of n = characters_of (get_or names n "----")
+name_of n = codes (get_or names n "----")

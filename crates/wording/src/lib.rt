@@ -7,8 +7,8 @@ mod numbers;
 mod places;
 mod results;
 
-pub use commands::{Command, command_of};
+pub use commands::{Command, CommandError, command_of};
 pub use names::name_of;
-pub use numbers::{FromText, Signed, number_of, signed_of};
-pub use places::{CodePlace, kind_at, place_of};
-pub use results::{communicated, status_of};
+pub use numbers::{NumberError, number_of};
+pub use places::{CodePlace, RecordKind, kind_at, place_of};
+pub use results::{Status, communicated, status_of};

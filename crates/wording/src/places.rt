@@ -1,50 +1,71 @@
 // Where a sheet's refusal points to.
-ghost use Rattle.std.specs.Prelude.{◌≡◌, get_or, ◌<◌};
-ghost use Rattle.wording.specs.Places.{code_place_of, record_kind_of};
+ghost use Rattle.std.specs.Prelude.{◌≡◌};
+ghost use Rattle.wording.specs.Places.{code_place_of, record_kind_of, kind_by};
+
+use sheet::entry_at;
 
 // A syllable of the code: the address of its word, and its place there, 0 being leftmost.
-#[derive(Clone, Copy)]
+#[derive(Clone, Copy, Debug, PartialEq, Eq)]
 pub struct CodePlace {
     pub word: u64,
-    pub syllable: u64,
+    pub syllable: u8,
 }
 
-// A byte of the sheet, 0 past its end.
-fn byte(sheet: &[u8], at: usize) -> u64
-    ensures { (result ≡ get_or sheet.now at 0) × (result < 256) }
-{
-    if at < sheet.len() {
-        return sheet[at] as u64;
+// What a record of the sheet is.
+#[derive(Clone, Copy, Debug, PartialEq, Eq)]
+pub enum RecordKind {
+    // 1: code words.
+    Code,
+    // 2: starting S and room.
+    Start,
+    // 3: number cells.
+    Numbers,
+    // 4: array cells.
+    Arrays,
+    // 5: R and table length.
+    Table,
+    // No kind of the paper.
+    Other(u8),
+}
+
+// The kind with a number.
+impl From<u8> for RecordKind {
+    ghost from_gives = { λ n k. k ≡ kind_by n };
+
+    #[tactic(auto, unfolding(crate::specs::Places::kind_by, crate::proofs::Choices::choosing))]
+    fn from(number: u8) -> RecordKind {
+        match number {
+            1 => RecordKind::Code,
+            2 => RecordKind::Start,
+            3 => RecordKind::Numbers,
+            4 => RecordKind::Arrays,
+            5 => RecordKind::Table,
+            _ => RecordKind::Other(number),
+        }
     }
-    0
 }
 
 // The syllable that a sheet's place names, counted from 0 from the first code word on.
 pub fn place_of(sheet: &[u8], place: u64) -> CodePlace
     ensures { result ≡ code_place_of sheet.now place }
 {
-    let first = 256 * byte(sheet, 2) + byte(sheet, 3);
+    let first = u64::from(entry_at(sheet, 0).first);
     CodePlace {
         word: first + place / 4,
-        syllable: place % 4,
+        syllable: (place % 4) as u8,
     }
 }
 
 // The kind that a record has by its place, or by its own first byte from record 3 on; 0 past the sheet's end.
-pub fn kind_at(sheet: &[u8], place: u64) -> u64
-    ensures { result ≡ record_kind_of sheet.now place }
+#[tactic(auto, unfolding(crate::specs::Places::record_kind_of, crate::specs::Places::kind_by, crate::proofs::Choices::choosing))]
+pub fn kind_at(sheet: &[u8], place: u64) -> RecordKind
+    ensures { result ≡ kind_by (record_kind_of sheet.now place) }
 {
-    if place == 0 {
-        return 1;
+    match place {
+        0 => RecordKind::Code,
+        1 => RecordKind::Start,
+        2 => RecordKind::Table,
+        3..1027 => RecordKind::from(entry_at(sheet, place as u16).kind),
+        _ => RecordKind::Other(0),
     }
-    if place == 1 {
-        return 2;
-    }
-    if place == 2 {
-        return 5;
-    }
-    if place < 1027 {
-        return byte(sheet, 6 * place as usize);
-    }
-    0
 }

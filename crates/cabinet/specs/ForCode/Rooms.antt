@@ -1,29 +1,28 @@
--- Where a core's words stand while a call works on them.
-use Rattle.std.specs.Prelude.{ℕ, ◌*◌, ◌<◌, ◌≤◌, ◌≡◌, List, leb, length}
+-- From bytes to words and registers, and back.
+use Rattle.std.specs.Prelude.{ℕ, ◌≡◌, List, eqb, leb, ltb, length, Bool}
+use Rattle.std.specs.Borrow.{MutBor}
+use Rattle.std.specs.declared.result.Result.{Result}
+use Rattle.std.specs.declared.result.Result.TheVariants.{Ok, Err}
 use Rattle.word.specs.Choices.{if◌then◌otherwise◌}
 use Rattle.machine.specs.declared.outcome.Registers.{Registers}
+use Rattle.machine.specs.declared.outcome.Refusal.{Refusal}
+use Rattle.machine.specs.declared.outcome.Refusal.TheVariants.{Registers as Register}
 use Rattle.machine.specs.States.{set_s, set_f, set_cl, set_r}
-use Rattle.tape.specs.Files.{write_file_of}
-use Rattle.cabinet.specs.Crossings.{StepBytes, step_bytes, refuses}
-use Rattle.cabinet.specs.Rows.{row_of}
+use Rattle.tape.specs.declared.errors.ReadError.{ReadError}
+use Rattle.tape.specs.Files.{words_of, words_in_of, write_file_of}
+use Rattle.cabinet.specs.Rows.{row_of, set_of, marks_fit}
 
--- Room for exactly the words that the bytes of a core say.
-pub record Roomy (words core : List ℕ) : Type 0 where
-  pub some : 0 < length words
-  pub most : length words ≤ 32768
-  pub exact : length core ≡ 6 * length words
+-- The words of a core's bytes, or why they are none.
+abbrev pub words_by : Result (MutBor (List ℕ)) ReadError → Result (List ℕ) ReadError
+words_by (Ok words) = Ok words.now
+words_by (Err why) = Err why
 
--- Room for the words of a core of its bytes, and a set of 66 bytes.
-pub record Room (words core regs : List ℕ) : Type 0 where
-  pub some : 0 < length words
-  pub most : length words ≤ 32768
-  pub exact : length core ≡ 6 * length words
-  pub row : length regs ≡ 66
+abbrev pub words_as : Result ℕ ReadError → List ℕ → Result (List ℕ) ReadError
+words_as (Ok n) core = Ok (words_of n core)
+words_as (Err why) core = Err why
 
--- What is left by a number, words and a set: tape's writing, where the number does not refuse.
-unfoldable pub written_back : ℕ → List ℕ → Registers → List ℕ → List ℕ → StepBytes
-written_back n words g core regs =
-    if refuses n then step_bytes n core regs otherwise step_bytes n (write_file_of words core) (write_file_of (row_of g) regs)
+unfoldable pub words_read : List ℕ → Result (List ℕ) ReadError
+words_read core = words_as (words_in_of (length core)) core
 
 -- A number past the most that a type holds is out of every range, as that most is.
 unfoldable pub narrow_of : ℕ → ℕ → ℕ
@@ -33,3 +32,18 @@ narrow_of most n = if leb n most then n otherwise most
 unfoldable pub narrow_set : Registers → Registers
 narrow_set g =
     set_s (set_f (set_cl (set_r g (narrow_of 65535 g.r)) (narrow_of 65535 g.c) (narrow_of 255 g.l)) (narrow_of 65535 g.f)) (narrow_of 65535 g.s)
+
+-- A mark of a row, the set of a row, and that of bytes; or 3.
+unfoldable pub mark_by : ℕ → Result Bool Refusal
+mark_by w = if ltb w 2 then Ok (eqb w 1) otherwise Err Register
+
+unfoldable pub set_by : List ℕ → Result Registers Refusal
+set_by row = if marks_fit row then Ok (narrow_set (set_of row)) otherwise Err Register
+
+unfoldable pub set_read : List ℕ → Result Registers Refusal
+set_read regs = if eqb (length regs) 66 then set_by (words_of 11 regs) otherwise Err Register
+
+-- What is left of words and a set: tape's writing of both.
+pub record Back (words : List ℕ) (g : Registers) (core core' regs regs' : List ℕ) : Type 0 where
+  pub words_back : core' ≡ write_file_of words core
+  pub set_back : regs' ≡ write_file_of (row_of g) regs

@@ -1,13 +1,19 @@
--- A 0 says that the cell is in core, so that its word is read; any other number gives no words.
-use mathlib.Core.Path.{sym, ◌∙◌}
-use Rattle.handout.proofs.Numbers.{number_named, start_given, count_given, start_none, count_none}
+-- Each way out is one of a hand-out.
+use borrow.Author.Rules.{rules}
+use Rattle.handout.proofs.Handing.{handed_core, handed_cell, handed_out, handed_unfit, handed_fits}
 use Rattle.handout.proofs.hand_out_bounds.Goals as goal
 
-pub bounds-core-at : goal.bounds-core-at
-bounds-core-at c = (number_named _ _ _ (sym c.hand_out_number.ensures ∙ c.if-hand_out_number-eq0.true)).inside
+pub returns-in_err-check_core : goal.returns-in_err-check_core
+returns-in_err-check_core c = handed_core _ _ _ c.in_err-check_core.ensures (search rules)
 
-pub returns-then-hand_out_number-eq0 : goal.returns-then-hand_out_number-eq0
-returns-then-hand_out_number-eq0 c = (c.address-start.ensures ∙ start_given _ _ _ (sym c.hand_out_number.ensures ∙ c.if-hand_out_number-eq0.true), c.size-count.ensures ∙ count_given _ _ _ (sym c.hand_out_number.ensures ∙ c.if-hand_out_number-eq0.true))
+pub returns-then-r-ge512 : goal.returns-then-r-ge512
+returns-then-r-ge512 c = handed_cell _ _ _ c.in_ok-check_core.ensures c.then-r-ge512.either
+
+pub returns-in_err-w : goal.returns-in_err-w
+returns-in_err-w c = handed_out _ _ _ c.in_ok-check_core.ensures c.if-r-ge512.false c.if-cell-ge1024.false (search rules) (search rules)
+
+pub returns-then-not-array_in : goal.returns-then-not-array_in
+returns-then-not-array_in c = handed_unfit _ _ _ c.in_ok-check_core.ensures c.if-not-array_in.ensures c.if-r-ge512.false c.if-cell-ge1024.false (search rules) (search rules)
 
 pub returns : goal.returns
-returns c = (start_none _ _ _ (λ z. c.if-hand_out_number-eq0.false (c.hand_out_number.ensures ∙ z)), count_none _ _ _ (λ z. c.if-hand_out_number-eq0.false (c.hand_out_number.ensures ∙ z)))
+returns c = handed_fits _ _ _ _ c.in_ok-check_core.ensures c.if-not-array_in.ensures c.if-r-ge512.false c.if-cell-ge1024.false (search rules) (search rules) (search rules) (search rules)

@@ -1,146 +1,111 @@
--- How the code holds what the definitions speak of: findings, the kinds of the cells, items, shapes and what is done to them.
-use Rattle.std.specs.Prelude.{ℕ, zero, suc, ◌+◌, ◌-◌, ◌*◌, ◌≤◌, ◌<◌, ◌≡◌, Bool, true, false, ◌&&◌, List, [], ◌∷◌, eqb, ltb, leb, length, get_or, drop}
-use Rattle.inspector.specs.declared.verdict.Find.{Find}
-use Rattle.inspector.specs.declared.verdict.Find.TheVariants.{At, Nowhere}
-use Rattle.inspector.specs.declared.targets.Landing.{Landing}
-use Rattle.inspector.specs.declared.targets.Landing.TheVariants.{On, Past}
-use Rattle.inspector.specs.declared.verdict.Verdict.{Verdict}
-use Rattle.inspector.specs.declared.shapes.Effect.{Effect}
-use Rattle.inspector.specs.declared.shapes.Effect.TheVariants.{Drops, Puts, Swaps, Breaks}
-use Rattle.inspector.specs.declared.shapes.Scanned.{Scanned}
-use Rattle.inspector.specs.declared.shapes.Scanned.TheVariants.{Height, Broken}
-use Rattle.inspector.specs.Verdicts.{Found, at, nowhere, lowest, answer_of, rules}
-use Rattle.sheet.specs.Sheets.{entries, code_of, code_words_of, room_of, table_of, cell_of}
-use Rattle.inspector.specs.Scan.{Item, literal, number, place, Shape, Left, leaves, breaks, exchanged, writable, within, shape_at, breaks_at}
-use Rattle.inspector.specs.Targets.{is_empty, distance}
-use Rattle.machine.specs.Outcomes.{Res, on, halt}
-use Rattle.machine.specs.declared.outcome.Cause.TheVariants.{Address}
-use Rattle.syllable.specs.Numbers.{operator_numbers as numbers_of}
-use Rattle.word.specs.Choices.{if◌then◌otherwise◌}
+-- How the code holds what the definitions speak of: areas, findings, the kinds of the cells, items, shapes and their marks.
+use Rattle.std.specs.Prelude.{ℕ, zero, suc, ◌+◌, ◌≤◌, ◌<◌, ◌≡◌, true, false, List, [], ◌∷◌, eqb, length, get_or, drop}
+use Rattle.std.specs.declared.option.Option.{Option}
+use Rattle.std.specs.declared.option.Option.TheVariants.{Some, None}
+use Rattle.std.specs.declared.result.Result.{Result}
+use Rattle.std.specs.declared.result.Result.TheVariants.{Ok, Err}
+use Rattle.inspector.specs.declared.areas.Area.{Area as HeldArea}
+use Rattle.inspector.specs.declared.segments.Kind.{Kind}
+use Rattle.inspector.specs.declared.segments.Kind.TheVariants.{Closed, Number as NumberCell, Array}
+use Rattle.inspector.specs.declared.shapes.Item.{Item as HeldItem}
+use Rattle.inspector.specs.declared.shapes.Item.TheVariants.{Literal, Number, Place}
+use Rattle.inspector.specs.declared.shapes.Mark.{Mark}
+use Rattle.inspector.specs.declared.shapes.Mark.TheVariants.{Empty, Literal as LiteralOnTop, Other}
+use Rattle.inspector.specs.Areas.{Area, area}
+use Rattle.inspector.specs.Verdicts.{Verdict, Found, at, nowhere, answer_of, rules}
+use Rattle.sheet.specs.Sheets.{entry_at, entries, code_of, code_words_of, room_of, cell_of}
+use Rattle.inspector.specs.Scan.{Item, literal, number, place, Shape, Left, leaves, breaks, within, shape_at, breaks_at}
 
-abbrev pub found_of : Find → Found
-found_of (At p) = at p
-found_of Nowhere = nowhere
+abbrev pub area_of : HeldArea → Area
+area_of x = area x.start x.count
 
--- What cell c is after n cells from a on were given a kind.
-abbrev pub painted : ℕ → ℕ → ℕ → ℕ → ℕ → ℕ
-painted a n kind old c = if leb a c && ltb c (a + n) then kind otherwise old
+abbrev pub found_of : Option ℕ → Found
+found_of (Some p) = at p
+found_of None = nowhere
 
-pub record Painted (a n kind : ℕ) (old new : List ℕ) : Type 0 where
-  pub sized : length new ≡ 1024
-  pub paint : (c : ℕ) → c < 1024 → get_or new c 0 ≡ painted a n kind (get_or old c 0) c
+abbrev pub found_by : {A : Type 0} → Result A ℕ → Found
+found_by (Ok x) = nowhere
+found_by (Err p) = at p
 
--- The list holds the kind of every cell that a syllable can name.
-pub record Cells (cells sheet : List ℕ) : Type 0 where
-  pub sized : length cells ≡ 1024
-  pub cell : (c : ℕ) → c < 1024 → get_or cells c 0 ≡ cell_of sheet c
-
--- An item as a number: a literal is itself, 1,024 a number, all else a place.
-unfoldable pub item_of : ℕ → Item
-item_of x = if ltb x 1024 then literal x otherwise if eqb x 1024 then number otherwise place
-
--- The shape of the h first items of a list, the last of them its top.
-unfoldable pub shape_of : List ℕ → ℕ → Shape
-shape_of items zero = []
-shape_of items (suc h) = item_of (get_or items h 0) ∷ shape_of items h
-
--- A shape of h items, its top a, and b under it.
-pub data Seen : ℕ → ℕ → ℕ → Shape → Type 0 where
-  none : {a b : ℕ} → Seen 0 a b []
-  one : {a b : ℕ} → Seen 1 a b (item_of a ∷ [])
-  two : {a b : ℕ} → Seen 2 a b (item_of a ∷ item_of b ∷ [])
-  more : {h a b : ℕ} {x : Item} {rest : Shape} → Seen (suc (suc (suc h))) a b (item_of a ∷ item_of b ∷ x ∷ rest)
-
--- What a syllable does to a shape: it takes items, or takes items and puts one, or exchanges two, or breaks the scan.
-unfoldable pub effected : Effect → Shape → Left
-effected (Drops t) xs = leaves (drop t xs)
-effected (Puts t x) xs = leaves (item_of x ∷ drop t xs)
-effected Swaps xs = exchanged xs
-effected Breaks xs = breaks
-
--- An effect on two conditions.
-unfoldable pub when_of : Bool → Bool → Effect → Effect
-when_of true true e = e
-when_of true false e = Breaks
-when_of false v e = Breaks
-
--- What a syllable must know of the sheet: the kind of the cell that it calls, whether its top names a place to load or store at,
--- and whether cell 9 is a number cell.
-pub record Knows (sheet : List ℕ) (k a cell : ℕ) (aim nine : Bool) : Type 0 where
-  pub called : cell ≡ cell_of sheet k
-  pub aimed : aim ≡ writable sheet (item_of a)
-  pub ninth : nine ≡ eqb (cell_of sheet 9) 3
-
-unfoldable pub scanned_of : List ℕ → Scanned → Left
-scanned_of items (Height h) = leaves (shape_of items h)
-scanned_of items Broken = breaks
-
--- The items became new, and the shape what a definition leaves.
-pub record Became (room : ℕ) (items new : List ℕ) (r : Scanned) (left : Left) : Type 0 where
-  pub same : scanned_of new r ≡ within room left
-  pub sized : length new ≡ length items
-
--- The mark of a shape: 0 of an empty one, k + 1 of one with the literal k on top, 1,025 of the others. How far a branch on it goes.
-abbrev pub far_of : ℕ → ℕ
-far_of m = if ltb m 1025 then m - 1 otherwise 0
-
-pub record Mark (s : Left) (m : ℕ) : Type 0 where
-  pub empty : eqb m 0 ≡ is_empty s
-  pub far : far_of m ≡ distance s
-
--- The marks of the first n syllables' shapes.
-pub record Marked (marks core sheet : List ℕ) (n : ℕ) : Type 0 where
-  pub mark : (i : ℕ) → i < n → Mark (shape_at core sheet i) (get_or marks i 0)
-
--- What the scan is lent: the table of operator numbers, the kinds of the cells, and room for the items and the marks.
-pub record Ready (sheet table cells items marks : List ℕ) : Type 0 where
-  pub few : code_words_of sheet ≤ 1024
-  pub numbers : table ≡ numbers_of
-  pub kinds : Cells cells sheet
-  pub deep : room_of sheet ≤ length items
-  pub long : 4 * code_words_of sheet ≤ length marks
-
--- A scan found the first syllable that breaks it, or marked all.
-abbrev pub MarksOf : Find → List ℕ → List ℕ → List ℕ → Type 0
-MarksOf (At p) marks core sheet = Unit {0}
-MarksOf Nowhere marks core sheet = Marked marks core sheet (4 * code_words_of sheet)
-
-pub record Scans (core sheet marks : List ℕ) (r : Find) : Type 0 where
-  pub found : found_of r ≡ lowest (breaks_at core sheet) (4 * code_words_of sheet) 0
-  pub marked : MarksOf r marks core sheet
-
--- Where a branch lands.
-abbrev pub land_of : Landing → Res ℕ
-land_of (On t) = on t
-land_of Past = halt Address
-
--- The code stands at `code`, has so many words, and the shapes before its syllables are marked.
-pub record Aimed (core sheet marks : List ℕ) (code words : ℕ) : Type 0 where
-  pub start : code ≡ code_of sheet
-  pub count : words ≡ code_words_of sheet
-  pub marked : Marked marks core sheet (4 * code_words_of sheet)
-
--- What the pass over the branches is lent.
-pub record Lent (core sheet table marks : List ℕ) : Type 0 where
-  pub few : code_words_of sheet ≤ 1024
-  pub numbers : table ≡ numbers_of
-  pub long : 4 * code_words_of sheet ≤ length marks
-  pub marked : Marked marks core sheet (4 * code_words_of sheet)
-
--- What rule 31 leaves of the first three records.
+-- What rule 31 leaves of the records.
 pub record SheetRanged (sheet : List ℕ) : Type 0 where
   pub least : 3 ≤ entries sheet
   pub most : entries sheet ≤ 1027
+  pub start : code_of sheet ≤ 32767
   pub words : code_words_of sheet ≤ 1024
   pub room : room_of sheet ≤ 1024
-  pub table : table_of sheet ≤ 1024
+  pub cells : (i : ℕ) → 3 ≤ i → i < entries sheet → (entry_at sheet i).first + (entry_at sheet i).count ≤ 1024
 
--- The answer of the rules from 31, from 33 and from 34 on.
+-- The kind of the cells that a record of a kind names.
+unfoldable pub kind_told : ℕ → Kind
+kind_told k = elim (eqb k 3) [ true ↦ NumberCell | false ↦ elim (eqb k 4) [ true ↦ Array | false ↦ Closed ] ]
+
+-- The list holds the kind of every cell.
+pub record Kinds (kinds : List Kind) (sheet : List ℕ) : Type 0 where
+  pub kind : (c : ℕ) → get_or kinds c Closed ≡ kind_told (cell_of sheet c)
+
+abbrev pub item_of : HeldItem → Item
+item_of (Literal k) = literal k
+item_of Number = number
+item_of Place = place
+
+-- The shape of the h first items of a list, the last of them its top.
+abbrev pub stacked : List HeldItem → ℕ → Shape
+stacked items zero = []
+stacked items (suc h) = item_of (get_or items h (Literal 0)) ∷ stacked items h
+
+-- A shape, and the most items that it has room for.
+pub record Held : Type 0 where
+  pub items : Shape
+  pub room : ℕ
+
+-- The item that is taken off, and what is left below it.
+abbrev pub taken : Option HeldItem → Shape → Shape
+taken (Some x) xs = item_of x ∷ xs
+taken None xs = []
+
+pub record Popped (old : Held) (r : Option HeldItem) (new : Held) : Type 0 where
+  pub items : old.items ≡ taken r new.items
+  pub rest : new.items ≡ drop 1 old.items
+  pub room : new.room ≡ old.room
+  pub fits : length new.items ≤ new.room
+
+-- The shape becomes what a definition leaves of it, or the scan breaks.
+abbrev pub shape_left : Option (Unit {0}) → Shape → Left
+shape_left (Some x) xs = leaves xs
+shape_left None xs = breaks
+
+pub record Turned (f : Shape → Left) (old : Held) (r : Option (Unit {0})) (new : Held) : Type 0 where
+  pub left : shape_left r new.items ≡ within old.room (f old.items)
+  pub room : new.room ≡ old.room
+
+-- The scan's shape before syllable i.
+pub record Before (core sheet : List ℕ) (i : ℕ) (held : Held) : Type 0 where
+  pub shape : shape_at core sheet i ≡ leaves held.items
+  pub room : held.room ≡ room_of sheet
+
+-- The mark of a shape.
+abbrev pub mark_told : Shape → Mark
+mark_told [] = Empty
+mark_told (literal k ∷ xs) = LiteralOnTop k
+mark_told (number ∷ xs) = Other
+mark_told (place ∷ xs) = Other
+
+abbrev pub mark_at : Left → Mark
+mark_at (leaves xs) = mark_told xs
+mark_at breaks = Other
+
+-- The marks of the shapes before the first n syllables.
+pub record Marked (marks : List Mark) (core sheet : List ℕ) (n : ℕ) : Type 0 where
+  pub mark : (i : ℕ) → i < n → get_or marks i Empty ≡ mark_at (shape_at core sheet i)
+
+-- None of the first n syllables breaks the scan.
+pub record Passed (core sheet : List ℕ) (n : ℕ) : Type 0 where
+  pub passed : (i : ℕ) → i < n → breaks_at core sheet i ≡ false
+
+-- The answer of the rules from 31 and from 34 on.
 abbrev pub records_of : List ℕ → List ℕ → Verdict
 records_of core sheet = answer_of (drop 3 (rules core sheet))
-
-abbrev pub cells_on_of : List ℕ → List ℕ → Verdict
-cells_on_of core sheet = answer_of (drop 5 (rules core sheet))
 
 abbrev pub flow_of : List ℕ → List ℕ → Verdict
 flow_of core sheet = answer_of (drop 6 (rules core sheet))

@@ -1,9 +1,12 @@
-use mathlib.Core.Path.{ap, sym, ◌∙◌}
-use Rattle.machine.specs.Steps.{plain}
-use Rattle.machine.specs.ForCode.Answers.{part_of}
-use Rattle.machine.proofs.Calculus.{known}
-use Rattle.machine.proofs.Sprinting.{two_both}
+-- What work answers for k is what two asks of it.
+use Rattle.std.proofs.Common.{rules}
+use Rattle.machine.specs.Arithmetics.{two_of}
+use Rattle.machine.specs.Stack.{both_full_of, a_full_of, b_full_of}
+use Rattle.machine.proofs.Calculus.{branching}
 use Rattle.machine.proofs.quick.both.Goals as goal
 
-pub returns-then-t : goal.returns-then-t
-returns-then-t c = λ core g here k. ap plain (two_both core g _ c.if-t.true _ _ (known part_of c.work.ensures c.in-Word.is)) ∙ sym (c.binary.ensures here k _)
+pub returns : goal.returns
+unfolding two_of both_full_of a_full_of b_full_of branching
+returns g c k h =
+    let e = c.work.ensures k h in
+    λ core q. search rules

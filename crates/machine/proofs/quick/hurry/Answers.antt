@@ -1,20 +1,23 @@
-use Rattle.machine.specs.Steps.{perform_of}
-use Rattle.machine.proofs.Sprinting.{hurries_as, hurries_reads, as_number, as_operator, as_store, as_turn}
+use Rattle.std.proofs.Common.{rules}
+use Rattle.machine.specs.Steps.{operate_of}
+use Rattle.machine.specs.Arithmetics.{reckon_of, relate_of}
+use Rattle.machine.specs.ForCode.Sprints.{upon}
+use Rattle.machine.proofs.Endings.{operates}
+use Rattle.machine.proofs.Sprinting.{at_hand, hurries_reads}
 use Rattle.machine.proofs.quick.hurry.Goals as goal
 
-pub returns-then-n-eq37 : goal.returns-then-n-eq37
-unfolding perform_of
-returns-then-n-eq37 c = as_number _ _ _ c.if-n-eq37.true (hurries_reads c.filled.result (c.filled.ensures c.args.core.now c.args.g))
+pub returns-in-Arithmetic : goal.returns-in-Arithmetic
+unfolding operate_of
+returns-in-Arithmetic c =
+    let f = c.both.ensures (reckon_of c.in-Arithmetic.a) (search rules) in
+    let a = at_hand c.read.result c.read.ensures c.in_ok-w.ensures.value in
+    let e = operates c.args.core.now (upon c.args.g c.args.t) _ _ a c.syllable_at.ensures c.read-s.ensures c.advance-p.ensures c.in-Operator.is in
+    rw (e, c.in-Arithmetic.is) (hurries_reads c.both.result (f c.args.core.now c.args.g))
 
-pub returns-then-n-eq38 : goal.returns-then-n-eq38
-unfolding perform_of
-returns-then-n-eq38 c = as_number _ _ _ c.if-n-eq38.true (hurries_reads c.operand.result c.operand.ensures)
-
-pub returns-then-n-le11 : goal.returns-then-n-le11
-returns-then-n-le11 c = hurries_as c.both.result (as_operator _ _ _ _ c.if-n-le11.true) (hurries_reads c.both.result (c.both.ensures c.args.core.now c.args.g c.args.here c.args.k))
-
-pub returns-then-n : goal.returns-then-n
-returns-then-n c = hurries_as c.stored.result (as_store _ c.args.n _ _ c.if-n.true) c.stored.ensures
-
-pub returns-then-n-2 : goal.returns-then-n-2
-returns-then-n-2 c = hurries_as c.turned.result (as_turn _ c.args.n _ _ c.if-n-2.true) (hurries_reads c.turned.result (c.turned.ensures c.args.core.now c.args.g))
+pub returns-in-Relation : goal.returns-in-Relation
+unfolding operate_of
+returns-in-Relation c =
+    let f = c.both-in-Relation.ensures (relate_of c.in-Relation.r) (search rules) in
+    let a = at_hand c.read.result c.read.ensures c.in_ok-w.ensures.value in
+    let e = operates c.args.core.now (upon c.args.g c.args.t) _ _ a c.syllable_at.ensures c.read-s.ensures c.advance-p.ensures c.in-Operator.is in
+    rw (e, c.in-Relation.is) (hurries_reads c.both-in-Relation.result (f c.args.core.now c.args.g))

@@ -1,38 +1,23 @@
 use mathlib.Core.Path.{refl, sym, ◌∙◌}
 use native.Mathlib.Omega.{arith}
-use borrow.Author.Rules.{rules}
 use Rattle.machine.proofs.Running.{left_none, left_end, goes_on_is, ends_com, ends_stop}
 use Rattle.machine.proofs.runs.turns.Goals as goal
 
-pub loop-n-init : goal.loop-n-init
-loop-n-init c = (search rules, refl, left_none _ _)
+pub loop-q-init : goal.loop-q-init
+loop-q-init c = record { within = omega arith; same_size = refl; rest = left_none _ _ }
 
-pub sprint-q-requires : goal.sprint-q-requires
-sprint-q-requires c = (c.loop-n.invariant.0, c.requires.1)
+pub returns-then-q-budget : goal.returns-then-q-budget
+returns-then-q-budget c = sym (c.loop-q.invariant.rest ∙ (rw c.if-q-budget.true at c.sprint-q.ensures.rest) ∙ left_end _ _ _ (omega arith))
 
-pub returns-then-m-budget : goal.returns-then-m-budget
-returns-then-m-budget c = sym (c.loop-n.invariant.2 ∙ c.sprint-q.ensures.2 ∙ left_end _ _ _ (omega (arith, c.if-m-budget.true)))
+pub loop-q-preserved : goal.loop-q-preserved
+loop-q-preserved c = record {
+  within = omega arith;
+  same_size = omega arith;
+  rest = c.loop-q.invariant.rest ∙ c.sprint-q.ensures.rest ∙ goes_on_is _ _ _ (omega arith) (rw c.in-Ok-Next.field-0-is at c.in-Ok-Next.ensures);
+}
 
-pub execute-requires : goal.execute-requires
-execute-requires c = (omega (arith, c.sprint-q.auto.core, c.loop-n.invariant.1, c.requires.0), c.requires.1)
+pub returns-in-Ok-Com : goal.returns-in-Ok-Com
+returns-in-Ok-Com c = sym (c.loop-q.invariant.rest ∙ c.sprint-q.ensures.rest ∙ ends_com _ _ _ (omega arith) (rw c.in-Ok-Com.field-0-is at c.in-Ok-Com.ensures))
 
-pub overflow_add-result : goal.overflow_add-result
-overflow_add-result c = omega (arith, c.sprint-q.ensures.1, c.if-m-budget.false, c.ranges.budget)
-
-pub returns-in-Com : goal.returns-in-Com
-returns-in-Com c = sym (c.loop-n.invariant.2 ∙ c.sprint-q.ensures.2 ∙ ends_com _ _ _ (omega (arith, c.sprint-q.ensures.1, c.if-m-budget.false)) c.execute.ensures c.in-Com.is)
-
-pub returns-in-Stop : goal.returns-in-Stop
-returns-in-Stop c = sym (c.loop-n.invariant.2 ∙ c.sprint-q.ensures.2 ∙ ends_stop _ _ _ (omega (arith, c.sprint-q.ensures.1, c.if-m-budget.false)) c.execute.ensures _ c.in-Stop.is c.number.ensures)
-
-pub overflow_add-n : goal.overflow_add-n
-overflow_add-n c = omega (arith, c.sprint-q.ensures.1, c.if-m-budget.false, c.ranges.budget)
-
-pub loop-n-smaller : goal.loop-n-smaller
-loop-n-smaller c = omega (arith, c.loop-n-test.true, c.sprint-q.ensures.0, c.sprint-q.ensures.1, c.if-m-budget.false)
-
-pub loop-n-preserved : goal.loop-n-preserved
-loop-n-preserved c = (omega (arith, c.sprint-q.ensures.1, c.if-m-budget.false), c.execute.auto.core ∙ c.sprint-q.auto.core ∙ c.loop-n.invariant.1, c.loop-n.invariant.2 ∙ c.sprint-q.ensures.2 ∙ goes_on_is _ _ _ (omega (arith, c.sprint-q.ensures.1, c.if-m-budget.false)) c.execute.ensures c.in-Next.is)
-
-pub returns : goal.returns
-returns c = sym (c.loop-n.invariant.2 ∙ left_end _ _ _ c.loop-n-test.false)
+pub returns-in-Err : goal.returns-in-Err
+returns-in-Err c = sym (c.loop-q.invariant.rest ∙ c.sprint-q.ensures.rest ∙ ends_stop _ _ _ (omega arith) c.in-Err.ensures)

@@ -1,15 +1,18 @@
--- A 0 says that the file has six bytes a word, so that all of the core is filled; any other number writes nothing.
-use mathlib.Core.Path.{sym, ◌∙◌}
+-- Each way out is one of a reading.
 use native.Mathlib.Omega.{arith}
-use Rattle.tape.proofs.Numbers.{read_whole}
-use Rattle.tape.proofs.Words.{read_yes, read_no}
+use borrow.Author.Rules.{rules}
+use Rattle.tape.proofs.Numbers.{counted}
+use Rattle.tape.proofs.Words.{file_refused, file_other, file_whole}
 use Rattle.tape.proofs.reading.read_file.Goals as goal
 
+pub returns-in_err-words : goal.returns-in_err-words
+returns-in_err-words c = file_refused _ _ c.in_err-words.ensures (search rules)
+
+pub returns-then-core-words : goal.returns-then-core-words
+returns-then-core-words c = file_other _ _ c.in_ok-words.ensures c.if-core-words.true
+
 pub fill_core-requires : goal.fill_core-requires
-fill_core-requires c = omega (arith, (read_whole _ _ (sym c.read_number-n.ensures ∙ c.if-n-eq0.true)).exact)
+fill_core-requires c = omega (arith, counted _ c.in_ok-words.ensures)
 
-pub returns-then-n-eq0 : goal.returns-then-n-eq0
-returns-then-n-eq0 c = record { number = c.read_number-n.ensures; core = read_yes _ _ (sym c.read_number-n.ensures ∙ c.if-n-eq0.true) c.fill_core.ensures }
-
-pub returns-else-n-eq0 : goal.returns-else-n-eq0
-returns-else-n-eq0 c = record { number = c.read_number-n.ensures; core = read_no _ _ (λ z. c.if-n-eq0.false (c.read_number-n.ensures ∙ z)) }
+pub returns : goal.returns
+returns c = file_whole _ _ c.in_ok-words.ensures c.if-core-words.false c.fill_core.ensures

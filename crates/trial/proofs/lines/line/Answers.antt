@@ -1,9 +1,9 @@
-use Rattle.trial.proofs.Texts.{line_refused, line_ended}
+use mathlib.Core.Path.{refl, sym, ◌∙◌}
 use native.Mathlib.Omega.{arith}
+use lib.Seq.{length-take-le}
+use Rattle.trial.proofs.Texts.{line_written}
 use Rattle.trial.proofs.lines.line.Goals as goal
 
-pub returns-in-Refused : goal.returns-in-Refused
-returns-in-Refused c = record { written = line_refused c.in-Refused.is c.decimal.ensures.0; within = omega (arith, c.decimal.ensures.1) }
-
-pub returns-in-Ended : goal.returns-in-Ended
-returns-in-Ended c = record { written = line_ended c.in-Ended.is c.sum_line.ensures.0; within = c.sum_line.ensures.1 }
+pub returns-clause-written : goal.returns-clause-written
+returns-clause-written c =
+    line_written c.args.room.now _ (sym (c.copy_from_slice.ensures.after ∙ c.of-end.ensures.0)) (c.copy_from_slice.ensures.len ∙ length-take-le c.of-end.result.end c.args.room.now (omega arith)) (omega arith) refl

@@ -1,18 +1,14 @@
-use Rattle.trial.proofs.Loads.{lent, load_read, load_many, load_none, load_broken}
-use mathlib.Core.Path.{refl, sym}
+-- Each way out is one of a load.
+use mathlib.Core.Path.{refl}
+use borrow.Author.Rules.{rules}
+use Rattle.trial.proofs.Loads.{load_refused, load_many, load_read}
 use Rattle.trial.proofs.trials.load.Goals as goal
 
-pub slice_bounds-read_file-end-then-n-le4096 : goal.slice_bounds-read_file-end-then-n-le4096
-slice_bounds-read_file-end-then-n-le4096 c = sym (lent _ c.requires c.if-n-le4096.true)
+pub returns-in_err-n : goal.returns-in_err-n
+returns-in_err-n c = load_refused _ _ _ c.in_err-n.ensures (search rules)
 
-pub returns-then-n-le4096 : goal.returns-then-n-le4096
-returns-then-n-le4096 c = load_read c.if-total-eq0.true c.if-n-gt0.true c.if-n-le4096.true (lent _ c.requires c.if-n-le4096.true) c.read_file.ensures refl
-
-pub returns-else-n-le4096 : goal.returns-else-n-le4096
-returns-else-n-le4096 c = load_many c.if-total-eq0.true c.if-n-le4096.false
-
-pub returns-else-n-gt0 : goal.returns-else-n-gt0
-returns-else-n-gt0 c = load_none c.if-total-eq0.true c.if-n-gt0.false
+pub returns-then-n-gt4096 : goal.returns-then-n-gt4096
+returns-then-n-gt4096 c = load_many _ _ _ c.in_ok-n.ensures c.if-n-gt4096.true
 
 pub returns : goal.returns
-returns c = load_broken c.if-total-eq0.false
+returns c = load_read _ _ _ c.in_ok-n.ensures c.if-n-gt4096.false (search rules) c.read_file.ensures refl

@@ -1,9 +1,9 @@
-use Rattle.trial.proofs.Loads.{trial_ended, trial_refused}
-use mathlib.Core.Path.{refl}
+use borrow.Author.Rules.{rules}
+use Rattle.trial.proofs.Loads.{trial_refused, trial_ended}
 use Rattle.trial.proofs.trials.trial.Goals as goal
 
-pub returns-then-n-eq0 : goal.returns-then-n-eq0
-returns-then-n-eq0 c = trial_ended refl c.load-n.ensures c.if-n-eq0.true c.run_from_start-sum.ensures
+pub returns-in_err-load : goal.returns-in_err-load
+returns-in_err-load c = trial_refused c.in_err-load.ensures (search rules)
 
 pub returns : goal.returns
-returns c = trial_refused c.load-n.ensures c.if-n-eq0.false
+returns c = trial_ended c.in_ok-load.ensures c.run_from_start.ensures

@@ -1,16 +1,8 @@
-use mathlib.Core.Path.{refl}
-use borrow.Author.Rules.{rules}
-use Rattle.word.proofs.Wholes.{words_more, words_no, words_all}
+use Rattle.std.proofs.Common.{◌^◌, ltb, ◌∙◌, rules, tests}
+use Rattle.std.proofs.lemmas.Iterator.{YieldsList-from_slice}
+use Rattle.std.proofs.lemmas.Iterator.Search.{all_from_yields_List}
+use Rattle.word.proofs.Wholes.{words_all}
 use Rattle.word.proofs.cores.words_fit.Goals as goal
 
-pub loop-i-init : goal.loop-i-init
-loop-i-init c = (search rules, refl)
-
-pub returns-then-core-i-ge281474976710656 : goal.returns-then-core-i-ge281474976710656
-returns-then-core-i-ge281474976710656 c = words_no _ _ c.loop-i-test.true c.if-core-i-ge281474976710656.true c.loop-i.invariant.1
-
-pub loop-i-preserved : goal.loop-i-preserved
-loop-i-preserved c = (search rules, words_more _ _ c.loop-i-test.true c.if-core-i-ge281474976710656.false c.loop-i.invariant.1)
-
 pub returns : goal.returns
-returns c = words_all _ _ c.loop-i-test.false c.loop-i.invariant.1
+returns c = all_from_yields_List (λ w. ltb w (2 ^ 48)) _ _ _ c.all.ensures.ran (YieldsList-from_slice c.args.core.now cc) (λ x b q k. search (rules, tests)) ∙ words_all c.args.core.now

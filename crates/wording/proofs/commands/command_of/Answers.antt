@@ -1,14 +1,12 @@
-use Rattle.wording.proofs.Choices.{command_run, command_inspect, command_help, command_unknown}
+use Rattle.std.proofs.Common.{rules, ◌≡◌}
+use Rattle.std.proofs.lemmas.Slice.Eq.{text_from_reads}
+use lib.Chars.{codes}
+use Rattle.word.specs.Choices.{if◌then◌otherwise◌}
+use Rattle.wording.specs.Commands.{command_of}
 use Rattle.wording.proofs.commands.command_of.Goals as goal
 
-pub returns-then-same : goal.returns-then-same
-returns-then-same c = command_run _ _ c.same.ensures c.if-same.true c.counted.ensures
-
-pub returns-then-same-2 : goal.returns-then-same-2
-returns-then-same-2 c = command_inspect _ _ c.same.ensures c.if-same.false c.same-2.ensures c.if-same-2.true c.counted-then-same-2.ensures
-
-pub returns-then-same-3 : goal.returns-then-same-3
-returns-then-same-3 c = command_help _ _ c.same.ensures c.if-same.false c.same-2.ensures c.if-same-2.false c.same-3.ensures c.if-same-3.true
-
-pub returns : goal.returns
-returns c = command_unknown _ _ c.same.ensures c.if-same.false c.same-2.ensures c.if-same-2.false c.same-3.ensures c.if-same-3.false
+pub returns-in-inspect : goal.returns-in-inspect
+unfolding command_of if◌then◌otherwise◌
+returns-in-inspect c =
+    let e : c.args.text.now ≡ codes "inspect" = text_from_reads c.args.text.now (codes "inspect") (search rules) (search rules) in
+    rw e c.counted-in-inspect.ensures

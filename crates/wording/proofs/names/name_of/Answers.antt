@@ -1,8 +1,12 @@
-use Rattle.wording.proofs.Lined.{name_listed, name_none}
+use Rattle.std.proofs.Common.{rules, ◌≡◌, ◌∙◌, get_or, map}
+use lib.Chars.{codes}
+use lib.ListN.{get_or-map}
+use Rattle.wording.specs.Names.{names, name_of}
 use Rattle.wording.proofs.names.name_of.Goals as goal
 
-pub returns-then-i-lt40 : goal.returns-then-i-lt40
-returns-then-i-lt40 c = name_listed _ c.if-i-lt40.true c.name_at.ensures
-
+-- The names of the definition are those of the code's table: antt computes all 40 and compares.
 pub returns : goal.returns
-returns c = name_none _ c.if-i-lt40.false c.name_at-2.ensures
+unfolding name_of
+returns c =
+    let e : c.unwrap_or.result ≡ get_or (map codes names) c.args.number (codes "----") = search rules in
+    e ∙ get_or-map codes names c.args.number "----"

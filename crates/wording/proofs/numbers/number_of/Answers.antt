@@ -1,37 +1,37 @@
-use Rattle.wording.proofs.FromTexts.{read_none, read_start, read_low, read_high, read_more, read_in, read_over, product, capped_small}
-use native.Mathlib.Omega.{arith}
-use borrow.Author.Rules.{rules}
+use Rattle.std.proofs.Common.{rules, ◌≡◌, ◌+◌, ◌-◌, ◌*◌, sym, ◌∙◌, arith, get_or, drop-cons, add-one, false}
+use Prim.Native.Nat.{min}
+use borrow.Author.Tests.{lt-leb, le-leb, le-ltb}
+use lib.ListN.{drop_of_length-le}
+use Rattle.wording.specs.FromText.{is_digit}
+use Rattle.wording.proofs.Readings.{read_none, read_start, read_wrong, read_more, read_in, read_over}
 use Rattle.wording.proofs.numbers.number_of.Goals as goal
+use Rattle.wording.proofs.numbers.number_of.Goals.{then-c-lt48-via-then-c-lt48, then-c-lt48-via-else-c-lt48+then-base-c}
 
-pub returns-then-text-eq0 : goal.returns-then-text-eq0
-returns-then-text-eq0 c = read_none _ _ _ c.if-text-eq0.true
+pub returns-then-is_empty : goal.returns-then-is_empty
+returns-then-is_empty c = read_none _ _ _ (search rules)
 
-pub loop-i-init : goal.loop-i-init
-loop-i-init c = (search rules, search rules, read_start _ _ _ c.if-text-eq0.false)
+pub loop-c-init : goal.loop-c-init
+loop-c-init c = record { held = omega arith; reads = read_start _ _ _ (search rules) }
 
 pub returns-then-c-lt48 : goal.returns-then-c-lt48
-returns-then-c-lt48 c = read_low _ _ _ _ _ c.loop-i-test.true c.wide-c.ensures.0 c.if-c-lt48.true c.loop-i.invariant.2
+returns-then-c-lt48 c =
+    let w : is_digit c.args.base (get_or c.args.text.now c.loop-c.c-index 0) ≡ false =
+    elim c.then-c-lt48.branch [
+      | then-c-lt48-via-then-c-lt48 w ↦ rw (lt-leb 48 _ w.if-c-lt48.true)
+      | then-c-lt48-via-else-c-lt48+then-base-c w ↦ rw (le-leb 48 _ w.if-c-lt48.false, le-ltb _ _ w.if-base-c.true)
+    ] in
+    sym (c.loop-c.invariant.reads ∙ rw (drop-cons c.args.text.now c.loop-c.c-index 0 c.loop-c-test.true) (read_wrong _ _ _ _ _ w))
 
-pub returns-then-b-c : goal.returns-then-b-c
-returns-then-b-c c = read_high _ _ _ _ _ c.loop-i-test.true c.wide-c.ensures.0 c.if-c-lt48.false c.if-b-c.true c.loop-i.invariant.2
+pub loop-c-preserved : goal.loop-c-preserved
+loop-c-preserved c =
+    let e : c.min-n.result ≡ min (c.loop-c.n * c.args.base + (get_or c.args.text.now c.loop-c.c-index 0 - 48)) (c.args.most + 1) = cc in
+    record {
+      held = omega (arith, e);
+      reads = c.loop-c.invariant.reads ∙ rw (add-one, drop-cons c.args.text.now c.loop-c.c-index 0 c.loop-c-test.true) (read_more _ _ _ _ _ _ c.if-c-lt48.false c.if-base-c.false e);
+    }
 
-pub overflow_mul-n : goal.overflow_mul-n
-overflow_mul-n c = record { fits = omega (arith, product {n = c.loop-i.n} {b = c.args.base} (omega (arith, c.loop-i.invariant.1)) (omega arith)) }
-
-pub overflow_add-n : goal.overflow_add-n
-overflow_add-n c = record { fits = omega (arith, product {n = c.loop-i.n} {b = c.args.base} (omega (arith, c.loop-i.invariant.1)) (omega arith), c.wide-c.ensures.1) }
-
-pub overflow_add-i : goal.overflow_add-i
-overflow_add-i c = omega arith
-
-pub loop-i-smaller : goal.loop-i-smaller
-loop-i-smaller c = omega arith
-
-pub loop-i-preserved : goal.loop-i-preserved
-loop-i-preserved c = (omega arith, capped_small _ _ c.capped-n.ensures, read_more _ _ _ _ _ c.loop-i-test.true c.wide-c.ensures.0 c.if-c-lt48.false c.if-b-c.false c.capped-n.ensures c.loop-i.invariant.2)
-
-pub returns-then-n-m : goal.returns-then-n-m
-returns-then-n-m c = read_in _ _ _ _ _ c.loop-i-test.false c.if-n-m.true c.loop-i.invariant.2
+pub returns-then-top-n : goal.returns-then-top-n
+returns-then-top-n c = sym (c.loop-c.invariant.reads ∙ rw (drop_of_length-le c.args.text.now c.loop-c-test.false) (read_over _ c.args.most _ (omega arith)))
 
 pub returns : goal.returns
-returns c = read_over _ _ _ _ _ c.loop-i-test.false c.if-n-m.false c.loop-i.invariant.2
+returns c = sym (c.loop-c.invariant.reads ∙ rw (drop_of_length-le c.args.text.now c.loop-c-test.false) (read_in _ c.args.most _ (omega arith)))

@@ -1,6 +1,0 @@
-use Rattle.inspector.specs.Areas.{astray}
-use Rattle.inspector.proofs.areas.code_astray.Goals as goal
-
-pub returns : goal.returns
-unfolding astray
-returns c = cc

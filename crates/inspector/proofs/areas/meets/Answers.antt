@@ -1,4 +1,0 @@
-use Rattle.inspector.proofs.areas.meets.Goals as goal
-
-pub returns : goal.returns
-returns c = cc

@@ -1,4 +1,0 @@
-use Rattle.inspector.proofs.sheets.cells_good.Goals as goal
-
-pub returns : goal.returns
-returns c = cc

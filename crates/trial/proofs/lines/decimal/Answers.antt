@@ -1,6 +1,0 @@
-use Rattle.trial.proofs.Texts.{decimal_said}
-use mathlib.Core.Path.{refl}
-use Rattle.trial.proofs.lines.decimal.Goals as goal
-
-pub returns : goal.returns
-returns c = decimal_said _ _ _ refl c.to_digits.ensures c.leading-k.ensures.0 c.spell.ensures

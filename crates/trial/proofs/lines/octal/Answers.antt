@@ -1,6 +1,0 @@
-use Rattle.trial.proofs.Texts.{octal_said}
-use mathlib.Core.Path.{refl}
-use Rattle.trial.proofs.lines.octal.Goals as goal
-
-pub returns : goal.returns
-returns c = octal_said _ _ _ refl c.to_digits.ensures c.spell.ensures
