@@ -96,10 +96,7 @@ pub fn complain_of(rt: &(impl Env + Eprint), at: usize, reason: &str) -> io::Res
 }
 
 fn is_link(rt: &impl Files, name: &str) -> bool {
-    match fs::symlink_metadata(rt, name) {
-        Ok(state) => state.is_symlink(),
-        Err(_) => false,
-    }
+    fs::symlink_metadata(rt, name).is_ok_and(|state| state.is_symlink())
 }
 
 // The look of a file that may be read and written.

@@ -2,7 +2,7 @@
 use inspector::Broken;
 use machine::{Cause, End, Ran};
 use post::PostError;
-use std::io;
+use std::{fmt, io};
 use syllable::{Syllable, Table};
 use tape::{ReadError, WriteError};
 use word::CoreError;
@@ -54,8 +54,7 @@ impl From<Reason> for u64 {
 // The number, what it means, and where.
 pub fn refused(rt: &impl Print, core: &[u64], sheet: &[u8], why: Reason) -> io::Result<()> {
     let number = u64::from(why);
-    let words = meaning(why);
-    println!(rt; "refused: {number}{words}")?;
+    println!(rt; "refused: {number}{why}")?;
     match why {
         Reason::Post(PostError::Broken(broken)) => place(rt, core, sheet, broken),
         _ => Ok(()),
@@ -71,16 +70,19 @@ fn place(rt: &impl Print, core: &[u64], sheet: &[u8], broken: Broken) -> io::Res
     }
 }
 
-// The paper's words for what refuses: no Display, which cannot be written here for another crate's type.
-fn meaning(why: Reason) -> &'static str {
-    match why {
-        Reason::Read(ReadError::Records) | Reason::Write(WriteError::Room) => {
-            ", core file length not a multiple of 6"
-        }
-        Reason::Read(ReadError::Length) => no_core(CoreError::Length),
-        Reason::Write(WriteError::Core(why)) => no_core(why),
-        Reason::Post(PostError::Broken(broken)) => rule(broken),
-        Reason::Post(PostError::Budget) => ", budget over 1,000,000",
+// The paper's words for what refuses.
+impl fmt::Display for Reason {
+    fn fmt<W: fmt::Write>(&self, f: &mut fmt::Formatter<W>) -> fmt::Result {
+        let words = match *self {
+            Reason::Read(ReadError::Records) | Reason::Write(WriteError::Room) => {
+                ", core file length not a multiple of 6"
+            }
+            Reason::Read(ReadError::Length) => no_core(CoreError::Length),
+            Reason::Write(WriteError::Core(why)) => no_core(why),
+            Reason::Post(PostError::Broken(broken)) => rule(broken),
+            Reason::Post(PostError::Budget) => ", budget over 1,000,000",
+        };
+        write!(f, "{words}")
     }
 }
 
