@@ -36,6 +36,7 @@ stretch_count core r cell = if eqb (hand_out_number core r cell) 0 then size_of 
 unfoldable pub stretch_of : List ℕ → ℕ → ℕ → List ℕ
 stretch_of core r cell = take (stretch_count core r cell) (drop (stretch_start core r cell) core)
 
+-- "checks 1, 2, 3 (R below 512, cell below 1,024), 36"
 abbrev pub hand_out_error_number : HandOutError → ℕ
 hand_out_error_number (Core e) = core_error_number e
 hand_out_error_number Cell = 3
@@ -47,10 +48,12 @@ pub record Handed : Type 0 where
   pub start : ℕ
   pub count : ℕ
 
+-- What an answer stands for; a refusal "with an empty stretch".
 abbrev pub handed_by : Result Stretch HandOutError → Handed
 handed_by (Ok s) = record { number = 0; start = s.start; count = s.count }
 handed_by (Err e) = record { number = hand_out_error_number e; start = 0; count = 0 }
 
+-- What it should be: the definitions above, side by side.
 abbrev pub handed_of : List ℕ → ℕ → ℕ → Handed
 handed_of core r cell = record { number = hand_out_number core r cell; start = stretch_start core r cell; count = stretch_count core r cell }
 

@@ -7,17 +7,6 @@ use native.Mathlib.Omega.{arith}
 use Rattle.sheet.specs.Sheets.{entry_at, table_of}
 use Rattle.inspector.specs.Records.{cells_good, floor_of, record_good}
 
-pub floor_none : (sheet : List ℕ) (i : ℕ) → i ≤ 3 → 0 ≡ floor_of sheet (i - 3)
-floor_none sheet i h =
-    let k : i - 3 ≡ 0 = omega arith in
-    rw k
-
-pub floor_some : (sheet : List ℕ) (i : ℕ) {a n : ℕ} → 3 < i → a ≡ (entry_at sheet (i - 1)).first → n ≡ (entry_at sheet (i - 1)).count → a + n ≡ floor_of sheet (i - 3)
-floor_some sheet i h e f =
-    let k : i - 3 ≡ suc (i - 4) = omega arith in
-    let l : 3 + (i - 4) ≡ i - 1 = omega arith in
-    rw (k, l, e, f)
-
 by_suc : (sheet : List ℕ) (j i : ℕ) → i ≡ suc (suc (suc j)) → cells_good (table_of sheet) (floor_of sheet j) (entry_at sheet i) ≡ record_good sheet i
 unfolding record_good
 by_suc sheet j i e =

@@ -60,6 +60,7 @@ answer_of (r ∷ rs) = blamed r.number (lowest r.broken r.places 0) (answer_of r
 unfoldable pub verdict_of : List ℕ → List ℕ → Verdict
 verdict_of core sheet = answer_of (rules core sheet)
 
+-- "After 1 and 2, in order: 30, .. 31, .. 32, .. 33, .. 34, .. 35"
 abbrev pub broken_number : Broken → ℕ
 broken_number (Core e) = core_error_number e
 broken_number Length = 30

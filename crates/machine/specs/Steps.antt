@@ -141,6 +141,7 @@ end_number On = 0
 end_number Communicated = 17
 end_number (Stopped n) = number_of n
 
+-- 1 and 2 of the core; "3: a register .. out of range, or an empty register not 0"; "5: budget over 1,000,000"
 abbrev pub refusal_number : Refusal → ℕ
 refusal_number (Core e) = core_error_number e
 refusal_number Register = 3

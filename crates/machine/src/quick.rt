@@ -1,6 +1,6 @@
 // The sprint: the common cases of the common syllables, over few registers; all else is left to the full step.
 // Its functions are the step's own, written again over fewer registers: for speed.
-ghost use Rattle.std.specs.Prelude.{◌≡◌, ◌&&◌, true, false, List, ℕ, ℤ, ◌≤◌, ◌<◌, length};
+ghost use Rattle.std.specs.Prelude.{◌≡◌, ◌&&◌, true, false, List, ℕ, ℤ, ◌≤◌, ◌<◌};
 ghost use Rattle.word.specs.Choices.{if◌then◌otherwise◌};
 ghost use Rattle.machine.specs.Stores.{litc_of, snd_of, std_of};
 ghost use Rattle.machine.specs.Calls.{call_of, call_k_of};

@@ -35,6 +35,7 @@ post_of core sheet budget =
     if eqb (verdict_of core sheet).number 0 then (if leb budget 1000000 then ran (run_from budget (start_of core sheet)) otherwise turned_away 5 0 core)
     otherwise turned_away (verdict_of core sheet).number (verdict_of core sheet).place core
 
+-- The inspector's number at its place, or "5: budget over 1,000,000" at place 0.
 abbrev pub post_error_number : PostError → ℕ
 post_error_number (Broken b) = broken_number b
 post_error_number Budget = 5

@@ -1,5 +1,5 @@
 -- The sheet: six-byte records, and what they name.
-pub use Rattle.sheet.specs.declared.Entry.{Entry}
+use Rattle.sheet.specs.declared.Entry.{Entry}
 use Rattle.std.specs.Prelude.{ℕ, zero, suc, ◌+◌, ◌-◌, ◌*◌, ◌/◌, true, false, ◌&&◌, List, ltb, leb, length, get_or}
 
 -- "Six-byte records: kind, 0, first (2 bytes), count (2 bytes), highest byte first."

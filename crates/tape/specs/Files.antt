@@ -24,14 +24,16 @@ bytes_of (w ∷ ws) = digits 256 6 w ++ bytes_of ws
 unfoldable pub core_number_of : ℕ → ℕ
 core_number_of n = if eqb (n % 6) 0 then (if count_fits (n / 6) then 0 otherwise 1) otherwise 4
 
--- How many words a file of n bytes has, or why it is no core file.
+-- How many words a file of n bytes has, or why it is no core file: "4, then 1".
 unfoldable pub words_in_of : ℕ → Result ℕ ReadError
 words_in_of n = if eqb (n % 6) 0 then (if count_fits (n / 6) then Ok (n / 6) otherwise Err Length) otherwise Err Records
 
+-- "4: core file length not a multiple of 6"; "1: core length 0 or over 32,768"
 abbrev pub read_error_number : ReadError → ℕ
 read_error_number Records = 4
 read_error_number Length = 1
 
+-- "Writing needs room of exactly six bytes a word, else 4, after 1 and 2."
 abbrev pub write_error_number : WriteError → ℕ
 write_error_number (Core e) = core_error_number e
 write_error_number Room = 4

@@ -2,7 +2,7 @@
 ghost use Rattle.std.specs.Prelude.{◌≡◌, ◌/◌, length};
 ghost use Rattle.word.specs.Core.{number_by};
 ghost use Rattle.word.specs.Digits.{numeral};
-ghost use Rattle.tape.specs.Files.{words_of, words_in_of, read_number_of, read_error_number, FileRead};
+ghost use Rattle.tape.specs.Files.{words_of, words_in_of, read_error_number, FileRead};
 
 use crate::errors::ReadError;
 

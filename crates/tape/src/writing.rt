@@ -1,8 +1,7 @@
 // From a core to a file.
-ghost use Rattle.std.specs.Prelude.{◌≡◌, ◌++◌, ◌+◌, ◌*◌, ◌≤◌, length, take, drop};
+ghost use Rattle.std.specs.Prelude.{◌≡◌, ◌+◌, ◌*◌, length};
 ghost use Rattle.word.specs.Core.{number_by};
-ghost use Rattle.word.specs.Digits.{digits};
-ghost use Rattle.tape.specs.Files.{bytes_of, write_number_of, write_error_number, FileWritten};
+ghost use Rattle.tape.specs.Files.{bytes_of, write_error_number, FileWritten};
 
 use crate::errors::WriteError;
 

@@ -34,6 +34,7 @@ abbrev pub says_outcome : Result Sum ℕ → OrNumber Sum
 says_outcome (Ok x) = the x
 says_outcome (Err n) = given_back n
 
+-- The same of an answer, whose refusal is the file's.
 abbrev pub says_trial : Result Sum ReadError → OrNumber Sum
 says_trial (Ok x) = the x
 says_trial (Err e) = given_back (read_error_number e)

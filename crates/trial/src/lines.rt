@@ -1,7 +1,7 @@
 // The line that the trial program writes.
 ghost use Rattle.std.specs.Prelude.{◌≡◌, ◌∷◌, [], ◌++◌, ◌+◌, ◌≤◌, ◌<◌, length};
 ghost use Rattle.trial.specs.Trials.{says_outcome};
-ghost use Rattle.trial.specs.Lines.{leading_of, glyph_of, spelled_of, decimal_of, octal_of, sum_line_of, line_of, Written};
+ghost use Rattle.trial.specs.Lines.{leading_of, spelled_of, decimal_of, octal_of, sum_line_of, line_of, Written};
 ghost use Rattle.trial.specs.ForCode.Texts.{text_of};
 
 use crate::trials::Sum;

@@ -1,5 +1,5 @@
 // The run of a core file, or why it is refused.
-ghost use Rattle.std.specs.Prelude.{◌≡◌, length};
+ghost use Rattle.std.specs.Prelude.{◌≡◌};
 ghost use Rattle.trial.specs.Trials.{Told, says_trial, trial_of};
 ghost use Rattle.trial.specs.ForCode.Loads.{Loaded};
 

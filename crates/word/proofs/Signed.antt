@@ -3,11 +3,9 @@ use Prim.Native.Nat.{ℕ, zero, suc, ◌^◌, ◌<◌}
 use mathlib.Core.Path.{◌≡◌, refl}
 use mathlib.Core.Bool.{true, false}
 use native.Mathlib.Omega.{arith}
-use lib.Dec.{T}
 use lib.IntN.{ℤ, pos, negsuc, neg_ℤ, nat_abs}
-use lib.Signed.{lt_z, non_neg}
 use mir.Syntax.{w64}
-use mir.Val.{SFits, Fits, of_z, to_z}
+use mir.Val.{SFits, of_z, to_z}
 use mir.ValLaws.{to_z-of_z}
 
 pub true_false : true ≡ false → ⊥
@@ -25,11 +23,3 @@ pub abs_neg : (z : ℤ) → nat_abs (neg_ℤ z) ≡ nat_abs z
 abs_neg (pos zero) = refl
 abs_neg (pos (suc n)) = refl
 abs_neg (negsuc n) = refl
-
--- A cast to u64 of a number that is not below 0.
-pub casts : (z : ℤ) (n : ℕ) → z ≡ pos n → n < 2 ^ 64 → T (non_neg z) × Fits w64 (nat_abs z)
-casts z n e h = rw e (tt, record { fits = h })
-
-pub not_below_zero : (z : ℤ) → lt_z z (pos 0) ≡ false → z ≡ pos (nat_abs z)
-not_below_zero (pos n) t = refl
-not_below_zero (negsuc n) t = absurd (true_false t)

@@ -27,6 +27,7 @@ number_by number (Err e) = number e
 unfoldable pub checked_of : List ℕ → Result (Unit {0}) CoreError
 checked_of core = if length_fits core then (if words_fit core then Ok tt otherwise Err Word) otherwise Err Length
 
+-- "1: core length 0 or over 32,768"; "2: a core word at or above 2^48"
 abbrev pub core_error_number : CoreError → ℕ
 core_error_number Length = 1
 core_error_number Word = 2

@@ -17,6 +17,7 @@ stop_status stop = if eqb stop 0 || eqb stop 17 then 0 otherwise 3
 unfoldable pub status_of : ℕ → ℕ → ℕ
 status_of number stop = if eqb number 0 then stop_status stop otherwise 1
 
+-- The numbers of the statuses, as the runner's help tells them.
 abbrev pub status_number : Status → ℕ
 status_number Done = 0
 status_number Refused = 1
