@@ -17,8 +17,9 @@ ghost use Rattle.inspector.specs.ForCode.Forms.{flow_of, records_of};
 
 use areas::astray;
 use cells::unfit;
-use scan::scan;
+use scan::{Scanned, scan};
 use segments::Segment;
+use shapes::Mark;
 use sheets::{bad_record, sheet_fits};
 pub use verdict::Broken;
 
@@ -26,7 +27,14 @@ pub use verdict::Broken;
 fn flow(segment: &Segment) -> Result<(), Broken>
     ensures { verdict_by result ≡ flow_of segment.now.core.now segment.now.sheet.now }
 {
-    let scanned = scan(segment).map_err(|at| Broken::Syllable(at as u64))?;
+    let mut marks = [Mark::Empty; 4096];
+    if let Some(at) = scan(segment, &mut marks) {
+        return Err(Broken::Syllable(at as u64));
+    }
+    let scanned = Scanned {
+        segment,
+        marks: &marks,
+    };
     if let Some(at) = scanned.target() {
         return Err(Broken::Target(at as u64));
     }

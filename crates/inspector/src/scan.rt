@@ -1,10 +1,10 @@
 // Rule 34: the scan, one pass over the syllables.
-ghost use Rattle.std.specs.Prelude.{◌≡◌, ◌<◌, ◌+◌, ◌*◌, false, IfOk};
+ghost use Rattle.std.specs.Prelude.{◌≡◌, ◌<◌, ◌+◌, ◌*◌, false, IfNone};
 ghost use Rattle.sheet.specs.Sheets.{code_words_of};
 ghost use Rattle.inspector.specs.Turns.{turn_of};
 ghost use Rattle.inspector.specs.Scan.{closes, breaks_at};
 ghost use Rattle.inspector.specs.Verdicts.{lowest};
-ghost use Rattle.inspector.specs.ForCode.Forms.{found_by, Before, Passed, Marked};
+ghost use Rattle.inspector.specs.ForCode.Forms.{found_of, Before, Passed, Marked};
 
 use crate::segments::Segment;
 use crate::shapes::{Mark, Shape};
@@ -36,24 +36,23 @@ fn breaks_at(segment: &Segment, shape: &mut Shape, i: u16) -> bool
 #[derive(Drop)]
 pub struct Scanned<'a> {
     pub segment: &'a Segment<'a>,
-    pub marks: [Mark; 4096],
+    pub marks: &'a [Mark; 4096],
     ghost passed: { Passed segment.now.core.now segment.now.sheet.now (4 * code_words_of segment.now.sheet.now) },
-    ghost marked: { Marked marks segment.now.core.now segment.now.sheet.now (4 * code_words_of segment.now.sheet.now) },
+    ghost marked: { Marked marks.now segment.now.core.now segment.now.sheet.now (4 * code_words_of segment.now.sheet.now) },
 }
 
-// "34, first syllable breaking the scan."
-pub fn scan<'a>(segment: &'a Segment<'a>) -> Result<Scanned<'a>, u16>
-    ensures found { found_by result ≡ lowest (breaks_at segment.now.core.now segment.now.sheet.now) (4 * code_words_of segment.now.sheet.now) 0 }
-    ensures core { IfOk result (λ s. s.segment.now.core.now ≡ segment.now.core.now) }
-    ensures sheet { IfOk result (λ s. s.segment.now.sheet.now ≡ segment.now.sheet.now) }
+// "34, first syllable breaking the scan." The marks are lent, since a call's stack is small.
+pub fn scan(segment: &Segment, marks: &mut [Mark; 4096]) -> Option<u16>
+    ensures found { found_of result ≡ lowest (breaks_at segment.now.core.now segment.now.sheet.now) (4 * code_words_of segment.now.sheet.now) 0 }
+    ensures passed { IfNone result (Passed segment.now.core.now segment.now.sheet.now (4 * code_words_of segment.now.sheet.now)) }
+    ensures marked { IfNone result (Marked marks.new segment.now.core.now segment.now.sheet.now (4 * code_words_of segment.now.sheet.now)) }
 {
     let mut shape = Shape::new(segment.room());
-    let mut marks = [Mark::Empty; 4096];
     for i in 0..segment.syllables() {
         marks[i as usize] = shape.mark();
         if breaks_at(segment, &mut shape, i) {
-            return Err(i);
+            return Some(i);
         }
     }
-    Ok(Scanned { segment, marks })
+    None
 }

@@ -2,8 +2,6 @@
 use Rattle.std.specs.Prelude.{ℕ, zero, suc, ◌+◌, ◌≤◌, ◌<◌, ◌≡◌, true, false, List, [], ◌∷◌, eqb, length, get_or, drop}
 use Rattle.std.specs.declared.option.Option.{Option}
 use Rattle.std.specs.declared.option.Option.TheVariants.{Some, None}
-use Rattle.std.specs.declared.result.Result.{Result}
-use Rattle.std.specs.declared.result.Result.TheVariants.{Ok, Err}
 use Rattle.inspector.specs.declared.areas.Area.{Area as HeldArea}
 use Rattle.inspector.specs.declared.segments.Kind.{Kind}
 use Rattle.inspector.specs.declared.segments.Kind.TheVariants.{Closed, Number as NumberCell, Array}
@@ -22,10 +20,6 @@ area_of x = area x.start x.count
 abbrev pub found_of : Option ℕ → Found
 found_of (Some p) = at p
 found_of None = nowhere
-
-abbrev pub found_by : {A : Type 0} → Result A ℕ → Found
-found_by (Ok x) = nowhere
-found_by (Err p) = at p
 
 -- What rule 31 leaves of the records.
 pub record SheetRanged (sheet : List ℕ) : Type 0 where
