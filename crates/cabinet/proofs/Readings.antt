@@ -99,6 +99,15 @@ module _ (core : List ℕ) where
       by (Ok n) h e = cc
       by (Err w) h e = uncounted core (cc)
 
+  -- The count alone says whether the words are read.
+  pub none_counted : {why : ReadError} → Err why ≡ words_in_of (length core) → Err why ≡ words_read core
+  unfolding words_read
+  none_counted e = rw (← e)
+
+  pub some_counted : {n : ℕ} → Ok n ≡ words_in_of (length core) → Ok (words_of n core) ≡ words_read core
+  unfolding words_read
+  some_counted e = rw (← e)
+
 -- ---- a load
 
 module _ (file core : List ℕ) where

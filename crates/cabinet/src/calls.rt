@@ -1,4 +1,5 @@
 // The calls on bytes: a core's words are read in, worked on and, where they may have changed, handed back.
+// Lengths and a row are looked at first: what they refuse costs no room and reads no core.
 ghost use Rattle.std.specs.Prelude.{◌≡◌};
 ghost use Rattle.word.specs.Core.{number_by};
 ghost use Rattle.tape.specs.Files.{read_error_number};
@@ -39,9 +40,10 @@ pub fn load(file: &[u8], core: &mut [u8]) -> Result<(), ReadError>
 pub fn step(core: &mut [u8], regs: &mut [u8]) -> Result<End, Refused>
     ensures { step_by result core.new regs.new ≡ step_bytes_of core.old regs.old }
 {
+    tape::words_in(core.len())?;
+    let g = set_in(&regs[..])?;
     let mut room = room();
     let words = read_in(&core[..], &mut room)?;
-    let g = set_in(&regs[..])?;
     let answer = machine::step(words, g)?;
     hand_back(words, answer.regs, core, regs);
     Ok(answer.end)
@@ -50,9 +52,10 @@ pub fn step(core: &mut [u8], regs: &mut [u8]) -> Result<End, Refused>
 pub fn run(core: &mut [u8], regs: &mut [u8], budget: u64) -> Result<Ran, Refused>
     ensures { run_by result core.new regs.new ≡ run_bytes_of core.old regs.old budget }
 {
+    tape::words_in(core.len())?;
+    let g = set_in(&regs[..])?;
     let mut room = room();
     let words = read_in(&core[..], &mut room)?;
-    let g = set_in(&regs[..])?;
     let ran = machine::run(words, g, budget)?;
     hand_back(words, ran.regs, core, regs);
     Ok(ran)
@@ -61,15 +64,17 @@ pub fn run(core: &mut [u8], regs: &mut [u8], budget: u64) -> Result<Ran, Refused
 pub fn hand_out(core: &[u8], r: u64, cell: u64) -> Result<Stretch, Refused>
     ensures { told_by result ≡ handed_bytes_of core.now r cell }
 {
+    tape::words_in(core.len())?;
     let mut room = room();
     let words = read_in(core, &mut room)?;
-    let stretch = handout::hand_out_bounds(words, narrow(r), narrow(cell))?;
+    let stretch = handout::stretch_at(words, narrow(r), narrow(cell))?;
     Ok(stretch)
 }
 
 pub fn inspect(core: &[u8], sheet: &[u8]) -> Result<(), Refused>
     ensures { inspected_by result ≡ inspect_bytes_of core.now sheet.now }
 {
+    tape::words_in(core.len())?;
     let mut room = room();
     let words = read_in(core, &mut room)?;
     inspector::inspect(words, sheet)?;
@@ -79,11 +84,12 @@ pub fn inspect(core: &[u8], sheet: &[u8]) -> Result<(), Refused>
 pub fn post(core: &mut [u8], sheet: &[u8], budget: u64, regs: &mut [u8]) -> Result<Ran, Refused>
     ensures { PostsBytes core.old sheet.now budget regs.old (post_by result core.new regs.new) }
 {
-    let mut room = room();
-    let words = read_in(&core[..], &mut room)?;
+    tape::words_in(core.len())?;
     if regs.len() != 66 {
         return Err(Refused::from(Refusal::Registers));
     }
+    let mut room = room();
+    let words = read_in(&core[..], &mut room)?;
     let ran = post::post(words, sheet, budget)?;
     hand_back(words, ran.regs, core, regs);
     Ok(ran)

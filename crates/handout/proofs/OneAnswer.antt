@@ -14,6 +14,7 @@ use Rattle.handout.specs.HandOut.{Handed, handed_by}
 use Rattle.handout.proofs.Agree.{sole_part}
 use Rattle.handout.proofs.hand_out_number.Reads as hand_out_number
 use Rattle.handout.proofs.hand_out_bounds.Reads as hand_out_bounds
+use Rattle.handout.proofs.stretch_at.Reads as stretch_at
 use Rattle.handout.proofs.hand_out.Reads as hand_out
 
 -- Each answer comes back from its number and its place, so the saying is one to one.
@@ -38,8 +39,14 @@ handing_back (Err Array) = refl
 pub hand_out_number_sole : (κs : _) (a : _) (r r' : ℕ) (e e' : _) → hand_out_number.Learnt κs a r e → hand_out_number.Learnt κs a r' e' → r ≡ r'
 hand_out_number_sole κs a r r' e e' p q = sole p q
 
-pub hand_out_bounds_sole : (κs : _) (a : _) (r r' : _) (e e' : _) → hand_out_bounds.Learnt κs a r e → hand_out_bounds.Learnt κs a r' e' → r ≡ r'
-hand_out_bounds_sole κs a r r' e e' p q = sole_said handed_by handing handing_back p q
+pub stretch_at_sole : (κs : _) (a : _) (r r' : _) (e e' : _) → stretch_at.Learnt κs a r e → stretch_at.Learnt κs a r' e' → r ≡ r'
+stretch_at_sole κs a r r' e e' p q = sole_said handed_by handing handing_back p q
+
+pub hand_out_bounds_sole : (κs : _) (a : _) (r r' : Stretch) (e e' : _) → hand_out_bounds.Learnt κs a r e → hand_out_bounds.Learnt κs a r' e' → r ≡ r'
+hand_out_bounds_sole κs a r r' e e' p q = same (sole p.0 q.0) (sole p.1 q.1)
+  where
+    same : {s s' n n' : ℕ} → s ≡ s' → n ≡ n' → ◌≡◌ {A = Stretch} (record { start = s; count = n }) (record { start = s'; count = n' })
+    same h k = rw (h, k)
 
 pub hand_out_sole : (κs : _) (a : _) (r r' : Bor (List ℕ)) (e e' : _) → hand_out.Learnt κs a r e → hand_out.Learnt κs a r' e' → (r.now ≡ r'.now) × (r.ref_ptr ≡ r'.ref_ptr)
 hand_out_sole κs a r r' e e' p q = sole_part p q

@@ -2,7 +2,7 @@
 #![tactic(auto)]
 
 ghost use Rattle.std.specs.Prelude.{◌≡◌};
-ghost use Rattle.handout.specs.HandOut.{hand_out_number, hand_out_error_number, handed_by, handed_of, HandedOut};
+ghost use Rattle.handout.specs.HandOut.{hand_out_number, stretch_start, stretch_count, hand_out_error_number, handed_by, handed_of, HandedOut};
 ghost use Rattle.handout.specs.declared.HandOutError.TheVariants.{Core};
 
 use word::CoreError;
@@ -47,7 +47,7 @@ impl From<CoreError> for HandOutError {
 }
 
 // Where the words of an array cell are: the descriptor's address and size; or why there are none.
-pub fn hand_out_bounds(core: &[u64], r: u16, cell: u16) -> Result<Stretch, HandOutError>
+pub fn stretch_at(core: &[u64], r: u16, cell: u16) -> Result<Stretch, HandOutError>
     ensures { handed_by result ≡ handed_of core.now r cell }
 {
     word::check_core(core)?;
@@ -68,17 +68,24 @@ pub fn hand_out_bounds(core: &[u64], r: u16, cell: u16) -> Result<Stretch, HandO
 pub fn hand_out_number(core: &[u64], r: u16, cell: u16) -> u64
     ensures { result ≡ hand_out_number core.now r cell }
 {
-    match hand_out_bounds(core, r, cell) {
+    match stretch_at(core, r, cell) {
         Ok(_) => 0,
         Err(why) => u64::from(why),
     }
+}
+
+// Where the words of an array cell are, or no words.
+pub fn hand_out_bounds(core: &[u64], r: u16, cell: u16) -> Stretch
+    ensures { (result.start ≡ stretch_start core.now r cell) × (result.count ≡ stretch_count core.now r cell) }
+{
+    let empty = Stretch { start: 0, count: 0 };
+    stretch_at(core, r, cell).unwrap_or(empty)
 }
 
 // The words of an array cell, or none.
 pub fn hand_out(core: &[u64], r: u16, cell: u16) -> &[u64]
     ensures { HandedOut core.entry result r cell }
 {
-    let empty = Stretch { start: 0, count: 0 };
-    let Stretch { start, count } = hand_out_bounds(core, r, cell).unwrap_or(empty);
+    let Stretch { start, count } = hand_out_bounds(core, r, cell);
     &core[start..start + count]
 }
