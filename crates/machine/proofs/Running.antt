@@ -1,19 +1,20 @@
 -- Laws of a run: what is left of it after n completed syllables.
 use Rattle.std.specs.declared.result.Result.TheVariants.{Ok, Err}
 use Prim.Native.Nat.{ℕ, suc, ◌+◌, ◌-◌, ◌≤◌, ◌<◌}
-use mathlib.Core.Path.{◌≡◌, ◌∙◌}
+use mathlib.Core.Path.{◌≡◌, refl, sym, ◌∙◌, ap}
 use mathlib.Core.List.{List}
 use native.Mathlib.Omega.{arith}
 use native.Mathlib.Nat.{add_assoc, add-zero, zero-add}
 use borrow.Author.Tests.{ne_eqb, le-leb, lt-leb}
+use Rattle.machine.specs.declared.outcome.Ran.{Ran}
 use Rattle.machine.specs.declared.outcome.Cause.{Cause}
 use Rattle.machine.specs.declared.outcome.Registers.{Registers}
 use Rattle.machine.specs.declared.outcome.Done.TheVariants.{Next, Com}
 use Rattle.machine.specs.declared.outcome.Refusal.{Refusal}
 use Rattle.machine.specs.Outcomes.{number_of}
 use Rattle.machine.specs.States.{State, state_of}
-use Rattle.machine.specs.Steps.{execute_of, refusal_of, refusal_number}
-use Rattle.machine.specs.Runs.{ends_at, goes_on, counted, run_from, run_of, ran_of}
+use Rattle.machine.specs.Steps.{Ended, next, communicated, stopped, Stepped, ended_as, execute_of, refusal_of, refusal_number, step_of}
+use Rattle.machine.specs.Runs.{Run, ends_at, goes_on, counted, run_from, run_of, run_says, ran_of}
 use Rattle.word.specs.Choices.{if◌then◌otherwise◌}
 use Rattle.machine.specs.ForCode.Answers.{Ends}
 use Rattle.machine.specs.ForCode.Sprints.{rest_of_run}
@@ -62,3 +63,22 @@ run_over core g b e h = rw (← e, lt-leb b 1000000 h)
 pub run_steps : (core : List ℕ) (g : Registers) (b : ℕ) → 0 ≡ refusal_of core g → b ≤ 1000000 → run_from b (state_of core g) ≡ run_of core g b
 unfolding run_of if◌then◌otherwise◌
 run_steps core g b e h = rw (← e, le-leb b 1000000 h)
+
+-- ---- a step is a run of one
+
+-- What a run of one answers, its count set aside.
+abbrev as_step : Run → Stepped
+as_step r = record { number = r.stop; core = r.core; regs = r.regs }
+
+one_is : (st : State) → as_step (run_from 1 st) ≡ ended_as (execute_of st) st
+unfolding run_from
+one_is st = go (execute_of st)
+  where
+    go : (e : Ended) → as_step (goes_on e (run_from 0) st) ≡ ended_as e st
+    go (next u) = refl
+    go (communicated u) = refl
+    go (stopped n) = refl
+
+pub step_is : (core : List ℕ) {core' : List ℕ} (g : Registers) (r : Ran) → 0 ≡ refusal_of core g → run_says r core' ≡ run_from 1 (state_of core g) → as_step (run_says r core') ≡ step_of core g
+unfolding step_of if◌then◌otherwise◌
+step_is core g r e f = rw (← e) (ap as_step f ∙ one_is (state_of core g))

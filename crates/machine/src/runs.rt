@@ -11,7 +11,7 @@ use syllable::Table;
 
 // A sprint over the common syllables, then a full step for the next one. A fit state stays fit, so the checks are not made again.
 // A sprint completes many syllables, so the loop is no `for`.
-fn turns(table: &Table, core: &mut [u64], g: Registers, budget: u64) -> Ran
+pub fn turns(table: &Table, core: &mut [u64], g: Registers, budget: u64) -> Ran
     requires { length core.old ≤ 32768 }
     ensures { run_says result core.new ≡ run_from budget (state_of core.old g) }
 {

@@ -11,7 +11,8 @@ use crate::calls::call_k;
 use crate::checks::check;
 use crate::memory::read;
 use crate::mks::mks;
-use crate::outcome::{Answer, Cause, Done, End, Refusal, Registers};
+use crate::outcome::{Answer, Cause, Done, Refusal, Registers};
+use crate::runs::turns;
 use crate::stores::{com, litc, lod, store};
 use crate::xit::xit;
 use syllable::{Branch, Logic, Operator, Syllable, Table};
@@ -121,21 +122,15 @@ pub fn execute(table: &Table, core: &mut [u64], g: Registers) -> Result<Done, Ca
     perform(core, g.c, table.read(y), h)
 }
 
-// Checks 1, 2 and 3, then one syllable.
-#[tactic(auto, using(crate::proofs::Endings::refused, crate::proofs::Endings::stepped, crate::proofs::Endings::refusal_length))]
+// Checks 1, 2 and 3, then one syllable: a run of one, so that `execute` has one caller and is built into the run.
+#[tactic(auto, using(crate::proofs::Endings::refused, crate::proofs::Endings::refusal_length))]
 pub fn step(core: &mut [u64], g: Registers) -> Result<Answer, Refusal>
     ensures { answered g result core.new ≡ step_of core.old g }
 {
     check(&core[..], g)?;
-    match execute(&Table::new(), core, g) {
-        Ok(Done::Next(regs)) => Ok(Answer { end: End::On, regs }),
-        Ok(Done::Com(regs)) => Ok(Answer {
-            end: End::Communicated,
-            regs,
-        }),
-        Err(cause) => Ok(Answer {
-            end: End::Stopped(cause),
-            regs: g,
-        }),
-    }
+    let ran = turns(&Table::new(), core, g, 1);
+    Ok(Answer {
+        end: ran.end,
+        regs: ran.regs,
+    })
 }
