@@ -1,4 +1,6 @@
 // Whole files, read and put in place. What cannot be done is said on standard error, with the file's name and the reason.
+ghost use Rattle.std.specs.Prelude.{◌≤◌, length, IfOk};
+
 use crate::looks::Look;
 use crate::say;
 use std::env::Env;
@@ -139,7 +141,9 @@ fn written(mut file: File, bytes: &[u8], look: Look) -> io::Result<()> {
 }
 
 // A name in the same folder, put into room: one that room cuts is too long.
-fn beside<'a>(name: &str, turn: u64, room: &'a mut [u8]) -> io::Result<&'a str> {
+fn beside<'a>(name: &str, turn: u64, room: &'a mut [u8]) -> io::Result<&'a str>
+    ensures { IfOk result (λ text. length text.now ≤ length room.old) }
+{
     let mut rest: &mut [u8] = &mut *room;
     let _ = write!(rest, "{name}.{turn:06o}");
     let text = room
@@ -193,6 +197,8 @@ fn put_by(
 
 // Puts the bytes in place of the file that an argument names, and answers whether that was done.
 // The new file has the permissions of the one that it replaces, or of `other` where it replaces none.
+// Never built into its caller, which has the segment on its stack: its own names lie there only while it puts.
+#[inline(never)]
 pub fn put_argument<R: Files<File = File> + Env + Eprint>(
     rt: &R,
     at: usize,

@@ -1,4 +1,6 @@
 // The arguments: how many there are, a short one, and the budget among them.
+ghost use Rattle.std.specs.Prelude.{◌≤◌, length};
+
 use std::env::{Env, FillError};
 use std::io;
 use wording::NumberError;
@@ -17,7 +19,9 @@ pub fn count(rt: &impl Env) -> usize {
 }
 
 // An argument, put into room: empty where there is none, or where it is longer than room.
-pub fn short<'a>(rt: &impl Env, at: usize, room: &'a mut [u8]) -> &'a [u8] {
+pub fn short<'a>(rt: &impl Env, at: usize, room: &'a mut [u8]) -> &'a [u8]
+    ensures { length result.now ≤ length room.old }
+{
     match rt.arg(at, room) {
         Ok(n) => &room[..n],
         Err(_) => &[],

@@ -23,6 +23,7 @@ struct Room {
     core: [u64; 32768],
 }
 
+// Each command has a room of its own, and is never built into a caller: help and refused arguments have none on their stack.
 const EMPTY: Room = Room {
     bytes: [0; CORE_MAX + 1],
     sheet: [0; SHEET_MAX + 1],
@@ -78,6 +79,7 @@ fn posted(bytes: &mut [u8], sheet: &[u8], core: &mut [u64], budget: u64) -> Resu
     Ok(ran)
 }
 
+#[inline(never)]
 pub fn inspect<R: Files<File = File> + Env + Print + Eprint>(rt: &R) -> io::Result<Status> {
     let mut room = EMPTY;
     let Some(
@@ -104,6 +106,14 @@ pub fn run<R: Files<File = File> + Env + Print + Eprint>(rt: &R) -> io::Result<S
     let Some(budget) = options::budget(rt)? else {
         return Ok(Status::Undone);
     };
+    run_for(rt, budget)
+}
+
+#[inline(never)]
+fn run_for<R: Files<File = File> + Env + Print + Eprint>(
+    rt: &R,
+    budget: u64,
+) -> io::Result<Status> {
     let mut room = EMPTY;
     let Some(
         Segment {
