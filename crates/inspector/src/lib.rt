@@ -18,7 +18,7 @@ ghost use Rattle.inspector.specs.ForCode.Forms.{flow_of, records_of};
 use areas::astray;
 use cells::unfit;
 use scan::{Scanned, scan};
-use segments::Segment;
+use segments::{Kind, Segment, tell_kinds};
 use shapes::Mark;
 use sheets::{bad_record, sheet_fits};
 pub use verdict::Broken;
@@ -53,7 +53,9 @@ fn examined(core: &[u64], sheet: &[u8]) -> Result<(), Broken>
     if let Some(at) = astray(core, sheet) {
         return Err(Broken::Area(at as u64));
     }
-    let segment = Segment::new(core, sheet);
+    let mut kinds = [Kind::Closed; 1024];
+    tell_kinds(&mut kinds, sheet);
+    let segment = Segment::new(core, sheet, &kinds);
     if let Some(at) = unfit(&segment) {
         return Err(Broken::Cell(at as u64));
     }

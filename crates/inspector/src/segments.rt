@@ -7,7 +7,7 @@ ghost use Rattle.inspector.specs.ForCode.Forms.{area_of, SheetRanged, kind_told,
 
 use crate::areas::{Area, code_area, stack_area};
 use sheet::entry_at;
-use syllable::{Syllable, Table};
+use syllable::Syllable;
 
 // What a cell is.
 #[derive(Clone, Copy)]
@@ -29,18 +29,17 @@ fn kind_told(kind: u8) -> Kind
     }
 }
 
-// The kind of every cell, from the last record to the first.
-fn kinds_of(sheet: &[u8]) -> [Kind; 1024]
+// The kind of every cell, from the last record to the first. The kinds are lent, since a call's stack is small.
+pub fn tell_kinds(kinds: &mut [Kind; 1024], sheet: &[u8])
     requires { SheetRanged sheet.now }
-    ensures { Kinds result sheet.now }
+    ensures { Kinds kinds.new sheet.now }
 {
-    let mut kinds = [Kind::Closed; 1024];
+    kinds.fill(Kind::Closed);
     for i in (3..(sheet.len() / 6) as u16).rev() {
         let e = entry_at(sheet, i);
         let from = e.first as usize;
         kinds[from..from + e.count as usize].fill(kind_told(e.kind));
     }
-    kinds
 }
 
 // The cells' kinds, the code's area and the room are read once.
@@ -48,29 +47,27 @@ fn kinds_of(sheet: &[u8]) -> [Kind; 1024]
 pub struct Segment<'a> {
     pub core: &'a [u64],
     pub sheet: &'a [u8],
-    kinds: [Kind; 1024],
+    kinds: &'a [Kind; 1024],
     code: Area,
     room: u16,
-    table: Table,
     ghost ranged: { SheetRanged sheet.now },
-    ghost named: { Kinds kinds sheet.now },
+    ghost named: { Kinds kinds.now sheet.now },
     ghost coded: { area_of code ≡ code_area sheet.now },
     ghost roomed: { room ≡ room_of sheet.now },
 }
 
 impl<'a> Segment<'a> {
-    pub(crate) fn new(core: &'a [u64], sheet: &'a [u8]) -> Segment<'a>
-        requires { SheetRanged sheet.now }
+    pub(crate) fn new(core: &'a [u64], sheet: &'a [u8], kinds: &'a [Kind; 1024]) -> Segment<'a>
+        requires { SheetRanged sheet.now × Kinds kinds.now sheet.now }
         ensures core { result.core.now ≡ core.now }
         ensures sheet { result.sheet.now ≡ sheet.now }
     {
         Segment {
             core,
             sheet,
-            kinds: kinds_of(sheet),
+            kinds,
             code: code_area(sheet),
             room: stack_area(sheet).count,
-            table: Table::new(),
         }
     }
 
@@ -78,7 +75,8 @@ impl<'a> Segment<'a> {
     pub(crate) fn kind(&self, c: u16) -> Kind
         ensures { result ≡ kind_told (cell_of self.now.sheet.now c) }
     {
-        self.kinds.get(c as usize).copied().unwrap_or(Kind::Closed)
+        let kinds = self.kinds;
+        kinds.get(c as usize).copied().unwrap_or(Kind::Closed)
     }
 
     #[tactic(auto, using(crate::proofs::Paints::is_number, crate::proofs::Paints::not_number))]
@@ -112,12 +110,13 @@ impl<'a> Segment<'a> {
     }
 
     // The i-th syllable of the code, counted from 0.
+    #[inline(always)]
     #[tactic(auto, using(crate::proofs::Readings::read_at))]
     pub(crate) fn syllable(&self, i: u16) -> Syllable
         ensures { result ≡ syllable_at self.now.core.now self.now.sheet.now i }
     {
         let at = self.code.start as usize + (i / 4) as usize;
         let w = self.core.get(at).copied().unwrap_or(0);
-        self.table.read(syllable::syllable_at(w, (i % 4) as u8))
+        syllable::decode(syllable::syllable_at(w, (i % 4) as u8))
     }
 }

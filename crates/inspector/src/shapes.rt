@@ -70,7 +70,7 @@ impl Shape {
         ensures { result ≡ record { items = []; room = room } }
     {
         Shape {
-            items: [Item::Number; 1024],
+            items: [Item::Literal(0); 1024],
             height: 0,
             room: room as usize,
         }

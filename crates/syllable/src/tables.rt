@@ -6,7 +6,7 @@ ghost use Rattle.syllable.specs.ForCode.Numbered.{syllable_numbered};
 
 use crate::{Arithmetic, Branch, Logic, Operator, Relation, Syllable};
 
-// The table of operator numbers. A constant is built anew at every use, so a run makes one table and lends it.
+// The table of operator numbers. It is built anew wherever it is made, so a run makes one and lends it.
 #[derive(Drop)]
 pub struct Table {
     numbers: [u8; 4096],
@@ -17,7 +17,7 @@ impl Table {
     pub fn new() -> Table
         ensures { result.numbers ≡ operator_numbers }
     {
-        Table { numbers: NUMBERS }
+        Table { numbers: *listed() }
     }
 
     // The operator number of a syllable.
@@ -44,18 +44,28 @@ pub fn numbers() -> [u8; 4096]
     Table::new().numbers
 }
 
+// The table's numbers in place, where no table is made.
+fn listed() -> &'static [u8; 4096]
+    ensures { result.now ≡ operator_numbers }
+{
+    &NUMBERS
+}
+
 // The operator number of one syllable.
+#[tactic(auto, using(crate::proofs::Entries::entry))]
 pub fn number(y: u16) -> u8
     ensures { result ≡ operator_number (y % 4096) }
 {
-    Table::new().number_of(y)
+    listed()[usize::from(y % 4096)]
 }
 
 // What one syllable is read as.
+#[inline(always)]
+#[tactic(auto, using(crate::proofs::Numbered::decode_number))]
 pub fn decode(y: u16) -> Syllable
     ensures { result ≡ decode_of (y % 4096) }
 {
-    Table::new().read(y)
+    syllable_numbered(number(y), y % 4096 / 4)
 }
 
 // The syllable of an operator number and of the number k.
@@ -109,7 +119,7 @@ fn syllable_numbered(n: u8, k: u16) -> Syllable
 
 // The operator numbers of all 4,096 syllables: 1 to 36 as paper 01 lists the operators, 0 for the others,
 // 37, 38, 39 for a literal, an operand call, a descriptor call. Its rule is `operator_number`, proved by one computed test.
-const NUMBERS: [u8; 4096] = [
+static NUMBERS: [u8; 4096] = [
     37, 0, 38, 39, 37, 0, 38, 39, 37, 0, 38, 39, 37, 0, 38, 39, 37, 0, 38, 39, 37, 0, 38, 39, 37,
     0, 38, 39, 37, 0, 38, 39, 37, 0, 38, 39, 37, 0, 38, 39, 37, 0, 38, 39, 37, 25, 38, 39, 37, 0,
     38, 39, 37, 24, 38, 39, 37, 0, 38, 39, 37, 0, 38, 39, 37, 1, 38, 39, 37, 0, 38, 39, 37, 0, 38,
