@@ -1,5 +1,5 @@
 // Rule 33: the named cells.
-ghost use Rattle.std.specs.Prelude.{◌≡◌, ◌+◌};
+ghost use Rattle.std.specs.Prelude.{◌≡◌, ◌+◌, ◌≤◌, length};
 ghost use Rattle.sheet.specs.Sheets.{table_of};
 ghost use Rattle.inspector.specs.Cells.{plain_words, array_fits, unfit};
 ghost use Rattle.inspector.specs.Verdicts.{lowest};
@@ -10,15 +10,13 @@ use crate::segments::{Kind, Segment};
 
 // All n words from a on have their flag off.
 fn plain_words(core: &[u64], a: u16, n: u16) -> bool
+    requires { a + n ≤ length core.now }
     ensures { result ≡ plain_words core.now a n }
 {
-    // One by one, since a word outside core reads as 0: there is no slice to take.
-    for j in 0..n {
-        if word::flag(core.get(a as usize + j as usize).copied().unwrap_or(0)) {
-            return false;
-        }
-    }
-    true
+    let from = usize::from(a);
+    core[from..from + usize::from(n)]
+        .iter()
+        .all(|w| !word::flag(*w))
 }
 
 #[tactic(auto, unfolding(crate::specs::Cells::array_fits))]

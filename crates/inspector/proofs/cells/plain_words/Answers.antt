@@ -1,16 +1,19 @@
-use Rattle.std.proofs.Common.{rules}
-use mathlib.Core.Path.{sym, ◌∙◌}
-use Rattle.inspector.proofs.Arrays.{plain_none, plain_more, plain_not, plain_all}
+use Prim.Native.Nat.{ℕ, ◌+◌, ◌-◌}
+use native.Mathlib.Omega.{arith}
+use lib.ListN.{take, drop}
+use Rattle.std.proofs.Common.{◌≡◌, ◌∙◌, rules, tests}
+use Rattle.std.proofs.lemmas.Iterator.{YieldsList-from_slice}
+use Rattle.std.proofs.lemmas.Iterator.Search.{all_from_yields_List}
+use mathlib.Core.Path.{ap}
+use mathlib.Core.Bool.{not}
+use Rattle.std.specs.List.{list_all}
+use Rattle.word.specs.Layout.{flag_of}
+use Rattle.inspector.proofs.Arrays.{part_plain}
 use Rattle.inspector.proofs.cells.plain_words.Goals as goal
 
-pub loop-j-init : goal.loop-j-init
-loop-j-init c = plain_none _ _ _
-
-pub returns-then-flag : goal.returns-then-flag
-returns-then-flag c = plain_not _ _ _ c.loop-j.j _ (search rules) (search rules) (sym c.flag.ensures ∙ c.if-flag.true) c.loop-j.invariant
-
-pub loop-j-preserved : goal.loop-j-preserved
-loop-j-preserved c = plain_more _ _ _ c.loop-j.j _ (search rules) (search rules) (sym c.flag.ensures ∙ c.if-flag.false) c.loop-j.invariant
-
 pub returns : goal.returns
-returns c = plain_all _ _ _ c.loop-j.j (search rules) c.loop-j.invariant
+returns c =
+    let k : c.args.a + c.args.n - c.args.a ≡ c.args.n = omega arith in
+    all_from_yields_List {all = take (c.args.a + c.args.n - c.args.a) (drop c.args.a c.args.core.now)} (λ w. not (flag_of w)) _ _ _ c.all.ensures.ran (YieldsList-from_slice _ cc) (λ x b q k. search (rules, tests))
+    ∙ ap (λ m. list_all (λ w. not (flag_of w)) (take m (drop c.args.a c.args.core.now))) k
+    ∙ part_plain _ _ _ c.requires
