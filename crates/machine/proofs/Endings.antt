@@ -10,12 +10,11 @@ use borrow.Author.Tests.{ne_eqb, leb-true}
 use lib.Dec.{ltb, leb}
 use lib.ListN.{length}
 use Rattle.machine.specs.declared.outcome.Registers.{Registers}
-use Rattle.machine.specs.declared.outcome.Done.TheVariants.{Next, Com}
 use Rattle.machine.specs.Outcomes.{Res, on}
 use Rattle.machine.specs.States.{State, set_cl, state_of}
 use Rattle.machine.specs.declared.outcome.Refusal.{Refusal}
 use Rattle.machine.specs.declared.outcome.Refusal.TheVariants.{Core, Registers as Register, Budget}
-use Rattle.machine.specs.Steps.{Ended, plain, operate_of, perform_of, execute_of, registers_fit, refusal_of, ended_as, step_of, refusal_number, answered}
+use Rattle.machine.specs.Steps.{Ended, plain, operate_of, perform_of, execute_of, registers_fit, refusal_of, step_of, refusal_number, answered}
 use Rattle.machine.specs.Memory.{read_of}
 use Rattle.syllable.specs.Decoding.{decode_of}
 use Rattle.syllable.specs.declared.Operator.{Operator}
@@ -26,7 +25,7 @@ use Rattle.word.specs.Choices.{if◌then◌otherwise◌}
 use Rattle.word.specs.Core.{length_fits, words_fit}
 use Rattle.word.specs.declared.cores.CoreError.TheVariants.{Length, Word}
 use Rattle.syllable.specs.Positions.{syllable_of, advance_of}
-use Rattle.machine.specs.ForCode.Answers.{Went, Ending, done_of, left_by, Does, Ends, plain_as}
+use Rattle.machine.specs.ForCode.Answers.{Went, Ending, Does, Ends, plain_as}
 
 -- ---- an operator: how its parts went is how it ends
 
@@ -65,15 +64,6 @@ positive Budget = omega arith
 pub refused : (core : List ℕ) (g : Registers) (e : Refusal) → refusal_number e ≡ refusal_of core g → answered g (Err e) core ≡ step_of core g
 unfolding step_of if◌then◌otherwise◌
 refused core g e h = rw (← h, ne_eqb (refusal_number e) 0 (λ z. omega (arith, positive e, z)))
-
-pub stepped : {core core' : List ℕ} {r : Ending} (g : Registers) → 0 ≡ refusal_of core g → Ends core core' r (execute_of (state_of core g)) → ended_as (done_of core' r) (state_of core' g) ≡ step_of core g
-unfolding step_of if◌then◌otherwise◌
-stepped {core} {core'} {r} g e d = rw (← e, ← d.same) (go r d.kept)
-  where
-    go : (r : Ending) → core' ≡ left_by r core core' → ended_as (done_of core' r) (state_of core' g) ≡ ended_as (done_of core' r) (state_of core g)
-    go (Ok (Next h)) k = refl
-    go (Ok (Com h)) k = refl
-    go (Err n) k = rw k refl
 
 -- A core that passes the checks has at most 32,768 words.
 pub refusal_length : (core : List ℕ) (g : Registers) → 0 ≡ refusal_of core g → length core ≤ 32768

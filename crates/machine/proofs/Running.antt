@@ -1,7 +1,7 @@
 -- Laws of a run: what is left of it after n completed syllables.
 use Rattle.std.specs.declared.result.Result.TheVariants.{Ok, Err}
 use Prim.Native.Nat.{ℕ, suc, ◌+◌, ◌-◌, ◌≤◌, ◌<◌}
-use mathlib.Core.Path.{◌≡◌, refl, sym, ◌∙◌, ap}
+use mathlib.Core.Path.{◌≡◌, refl, ◌∙◌, ap}
 use mathlib.Core.List.{List}
 use native.Mathlib.Omega.{arith}
 use native.Mathlib.Nat.{add_assoc, add-zero, zero-add}
